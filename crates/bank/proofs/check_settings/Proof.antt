@@ -1,0 +1,16 @@
+-- `bank::check_settings` meets its contract.
+-- Assumes nothing.
+use mathlib.Core.Path.{_≡_, refl, sym, ap, _∙_}
+use Rattle.bank.specs.Check.{numbersOf}
+use borrow.Author.Needs.{needs}
+use Rattle.bank.proofs.check_settings.Statement.{statement}
+use Rattle.bank.proofs.check_settings.Tie as tie
+
+check-requires : tie.Need-check-requires
+check-requires c κs = search needs
+
+returns : tie.Need-returns
+returns c = ap numbersOf (c .check .ensures)
+
+pub check-settings-spec : {M : Type 1} → statement M
+check-settings-spec = tie.close (tie.spec check-requires returns)

@@ -1,0 +1,87 @@
+-- What the bytes of a bank say: its settings, and its patterns with their steps.
+-- Assumes nothing.
+use Prim.Native.Nat.{ℕ, zero, suc, _+_, _*_, _-_, _/_}
+use mathlib.Core.List.{List, [], _∷_}
+use lib.ListN.{getD}
+use lib.IntN.{ℤ, pos}
+use mir.Syntax.{w16}
+use Rattle.field.specs.Field.{field, signedField}
+use Rattle.bank.specs.declared.Settings.{Settings}
+use Rattle.bank.specs.declared.Step.{Step}
+
+-- what f says at m places, the first of them at, each next w further
+unfoldable pub tab : {A : Type 0} → (ℕ → A) → ℕ → ℕ → ℕ → List A
+tab f w at zero = []
+tab f w at (suc m) = f at ∷ tab f w (at + w) m
+
+-- the settings, by their offsets
+unfoldable pub settingsAt : List ℕ → Settings
+settingsAt b = record {
+  patterns = field 1 b 0;
+  start = field 1 b 1;
+  outage = field 1 b 2;
+  low = signedField w16 b 3;
+  high = signedField w16 b 5;
+  initial = signedField w16 b 7;
+  width = field 2 b 9;
+  filter = field 2 b 11;
+  zones = tab (field 2 b) 4 13 4;
+  waits = tab (field 2 b) 4 15 4;
+  on = tab (field 2 b) 4 29 4;
+  off = tab (field 2 b) 4 31 4;
+}
+
+-- pair p (from 1) of body offset and length
+abbrev pub offsetOf : List ℕ → ℕ → ℕ
+offsetOf b p = field 2 b (41 + 4 * p)
+
+abbrev pub lengthOf : List ℕ → ℕ → ℕ
+lengthOf b p = field 2 b (43 + 4 * p)
+
+-- the s of a length 2 + 9s
+abbrev pub stepsIn : ℕ → ℕ
+stepsIn len = (len - 2) / 9
+
+-- the step of nine bytes at an offset: target, minutes, wait number, four time signals
+unfoldable pub stepAt : List ℕ → ℕ → Step
+stepAt b at = record {
+  target = signedField w16 b at;
+  minutes = field 2 b (at + 2);
+  wait = field 1 b (at + 4);
+  signals = tab (field 1 b) 1 (at + 5) 4;
+}
+
+-- a pattern: runs, count (the body's s), and its steps
+pub record Pattern : Type 0 where
+  pub runs : ℕ
+  pub count : ℕ
+  pub steps : List Step
+
+-- the body of pattern p (from 1): runs, s, then the steps of its length
+unfoldable pub patternAt : List ℕ → ℕ → Pattern
+patternAt b p = record {
+  runs = field 1 b (offsetOf b p);
+  count = field 1 b (offsetOf b p + 1);
+  steps = tab (stepAt b) 9 (offsetOf b p + 2) (stepsIn (lengthOf b p));
+}
+
+-- the n patterns
+unfoldable pub patternsOf : List ℕ → List Pattern
+patternsOf b = tab (patternAt b) 1 1 (field 1 b 0)
+
+-- pattern p and its step k, counted from 1; nothing at a number that is not there
+unfoldable pub noPattern : Pattern
+noPattern = record { runs = 0; count = 0; steps = [] }
+
+unfoldable pub noStep : Step
+noStep = record { target = pos 0; minutes = 0; wait = 0; signals = 0 ∷ 0 ∷ 0 ∷ 0 ∷ [] }
+
+unfoldable pub numbered : {A : Type 0} → A → List A → ℕ → A
+numbered none xs zero = none
+numbered none xs (suc i) = getD xs i none
+
+unfoldable pub patternOf : List ℕ → ℕ → Pattern
+patternOf b p = numbered noPattern (patternsOf b) p
+
+unfoldable pub stepOf : List ℕ → ℕ → ℕ → Step
+stepOf b p k = numbered noStep (patternOf b p .steps) k

@@ -1,0 +1,3 @@
+-- The definitions that the contracts of `measure` cite, and document 01's examples of them.
+pub mod Filter
+pub mod Examples

@@ -1,0 +1,16 @@
+-- `time::limit` meets its contract. Assumes nothing.
+use borrow.Author.Tests.{eq-eqb, ne-eqb}
+use Rattle.program.specs.Program.{limitOf}
+use Rattle.program.proofs.time.limit.Statement.{statement}
+use Rattle.program.proofs.time.limit.Tie as tie
+
+returns : tie.Need-returns
+unfolding limitOf
+returns c = rw (eq-eqb _ _ (c .if1 .taken))
+
+returns-2 : tie.Need-returns-2
+unfolding limitOf
+returns-2 c = rw (ne-eqb _ _ (c .if1 .left))
+
+pub limit-spec : {M : Type 1} → statement M
+limit-spec = tie.close (tie.spec returns returns-2)

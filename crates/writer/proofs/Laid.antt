@@ -1,0 +1,104 @@
+-- An accepted bank's patterns, laid out in arrays, are taken as they are.
+-- Assumes nothing.
+use mathlib.Core.Path.{_≡_, refl, sym, ap, _∙_, subst}
+use mathlib.Core.Bool.{true}
+use mathlib.Core.List.{List, [], _∷_, _++_, map, append-assoc}
+use Prim.Native.Nat.{ℕ, zero, suc, _+_, _*_, _-_, _≤_, _<_}
+use native.Mathlib.Nat.{add-zero, zero-add, suc-mul, le-trans}
+use native.Mathlib.Omega.{arith}
+use borrow.Author.Tests.{le-leb}
+use lib.ListN.{length, getD, take, drop, replicate, length-append, length-map}
+use lib.Seq.{sets, sets-eq, drop-drop, drop-at, take-at, getD-drop}
+use Rattle.field.specs.Field.{field}
+use Rattle.bank.specs.Capacity.{capacityOf}
+use Rattle.bank.specs.View.{Pattern, tab, settingsAt, patternAt, patternsOf, patternOf, noStep}
+use Rattle.bank.specs.Check.{bodiesFound, ofLength, foundIn}
+use Rattle.bank.specs.Read.{allSteps, laidOut}
+use Rattle.bank.specs.declared.Step.{Step}
+use Rattle.bank.specs.declared.Patterns.{Patterns}
+use Rattle.bank.specs.declared.Checked.the-variants.{Accepted}
+use Rattle.bank.proofs.Laws.{next}
+use Rattle.bank.proofs.Walk.{length-tab}
+use Rattle.bank.proofs.Facts.{parts, count-range, there, pattern-there, count-is, count-fits, all-fit}
+use Rattle.writer.specs.Write.{takenFrom, takenOf, withinCapacity, wrongIn}
+use Rattle.writer.proofs.Found.{All, all-map, bodies-change}
+
+-- the entry at a place, and what stands behind it
+entry : (l : List ℕ) (p x : ℕ) (r : List ℕ) → drop p l ≡ x ∷ r → getD l p 0 ≡ x
+entry l p x r e = ap (λ (k : ℕ). getD l k 0) (sym (add-zero p)) ∙ sym (getD-drop p l 0 0) ∙ ap (λ (m : List ℕ). getD m 0 0) e
+
+after : (l : List ℕ) (p x : ℕ) (r : List ℕ) → drop p l ≡ x ∷ r → drop (p + 1) l ≡ r
+after l p x r e = sym (drop-drop 1 p l) ∙ ap (drop 1) e
+
+-- patterns whose numbers and steps stand in arrays are taken from there
+taken : (ps : Patterns) (xs : List Pattern) (p base : ℕ) (runs counts : List ℕ) (steps : List Step) → All (λ x. x .count ≡ length (x .steps)) xs
+    → drop p (ps .runs) ≡ map (λ x. x .runs) xs ++ runs → drop p (ps .counts) ≡ map (λ x. x .count) xs ++ counts → drop base (ps .steps) ≡ allSteps xs ++ steps
+    → takenFrom ps p base (length xs) ≡ xs
+unfolding takenFrom allSteps
+taken ps [] p base runs counts steps h e f g = refl
+taken ps (x ∷ xs) p base runs counts steps h e f g =
+    let count : getD (ps .counts) p 0 ≡ x .count = entry (ps .counts) p (x .count) _ f in
+    let size : length (x .steps) ≡ getD (ps .counts) p 0 = sym (count ∙ h .0) in
+    let k : drop base (ps .steps) ≡ x .steps ++ (allSteps xs ++ steps) = g ∙ append-assoc (x .steps) (allSteps xs) steps in
+    let own : take (getD (ps .counts) p 0) (drop base (ps .steps)) ≡ x .steps = ap (take (getD (ps .counts) p 0)) k ∙ take-at (x .steps) (allSteps xs ++ steps) (getD (ps .counts) p 0) size in
+    let rest : drop (base + getD (ps .counts) p 0) (ps .steps) ≡ allSteps xs ++ steps =
+    sym (drop-drop (getD (ps .counts) p 0) base (ps .steps)) ∙ ap (drop (getD (ps .counts) p 0)) k ∙ drop-at (x .steps) (allSteps xs ++ steps) (getD (ps .counts) p 0) size in
+    λ i. record { runs = entry (ps .runs) p (x .runs) _ e i; count = count i; steps = own i }
+    ∷ taken ps xs (p + 1) (base + getD (ps .counts) p 0) runs counts steps (h .1) (after (ps .runs) p (x .runs) _ e) (after (ps .counts) p (x .count) _ f) rest i
+
+-- what is laid out at the front stands there
+front : {A : Type 0} (l vs : List A) → length vs ≤ length l → drop 0 (sets l 0 vs) ≡ vs ++ drop (0 + length vs) l
+front l vs h = sets-eq vs l 0 (omega arith)
+
+pub length-all : (n : ℕ) (xs : List Pattern) → All (λ x. (x .count ≡ length (x .steps)) × (x .count ≤ capacityOf n)) xs → length (allSteps xs) ≤ length xs * capacityOf n
+unfolding allSteps
+length-all n [] h = omega arith
+length-all n (x ∷ xs) h =
+    omega (arith, length-append (x .steps) (allSteps xs), length-all n xs (h .1), h .0 .0, h .0 .1, suc-mul (length xs) (capacityOf n))
+
+all-tab : (P : Pattern → Type 0) (f : ℕ → Pattern) (p m : ℕ) → ((i : ℕ) → p ≤ i → i < p + m → P (f i)) → All P (tab f 1 p m)
+unfolding tab
+all-tab P f p zero h = tt
+all-tab P f p (suc m) h = (h p (omega arith) (omega arith), all-tab P f (p + 1) m (λ i l u. h i (omega arith) (omega arith)))
+
+module _ (b : List ℕ) (ok : foundIn b ≡ Accepted) where
+  abbrev n : ℕ
+  n = field 1 b 0
+
+  abbrev Sized : Pattern → Type 0
+  Sized x = (x .count ≡ length (x .steps)) × (x .count ≤ capacityOf n)
+
+  sized : All Sized (patternsOf b)
+  unfolding patternsOf
+  sized =
+      all-tab Sized (patternAt b) 1 n
+      (λ p l u.
+      let h : p ≤ n = omega arith in
+      subst Sized (pattern-there b p (there b ok p l h)) (count-is b ok p l h, omega (arith, count-is b ok p l h, count-fits b ok p l h)))
+
+  count : length (patternsOf b) ≡ n
+  unfolding patternsOf
+  count = length-tab (patternAt b) 1 1 n
+
+  -- what a bank's check finds right, the writer finds right
+  pub right-again : wrongIn (settingsAt b) (patternsOf b) ≡ Accepted
+  unfolding wrongIn withinCapacity settingsAt
+  right-again =
+      next (parts b ok .settings)
+      ∙ bodies-change ofLength (withinCapacity n) (settingsAt b .low) (settingsAt b .high) 1 (patternsOf b)
+      (all-map Sized (λ x. withinCapacity n x ≡ true) (λ x h. le-leb (x .count) (capacityOf n) (h .1)) (patternsOf b) sized) (parts b ok .bodies)
+
+  pub taken-again : takenOf (settingsAt b) (laidOut (patternsOf b)) ≡ patternsOf b
+  unfolding takenOf laidOut settingsAt
+  taken-again =
+      let xs = patternsOf b in
+      let r = count-range b ok in
+      let runs = map (λ (x : Pattern). x .runs) xs in
+      let counts = map (λ (x : Pattern). x .count) xs in
+      let room : length xs ≤ 15 = omega (arith, count) in
+      let fits : length (allSteps xs) ≤ 99 = le-trans (length-all n xs sized) (subst (λ (k : ℕ). k * capacityOf n ≤ 99) (sym count) (all-fit n n (r .0) (r .1) (omega arith))) in
+      ap (takenFrom (laidOut xs) 0 0) (sym count)
+      ∙ taken (laidOut xs) xs 0 0 _ _ _ (all-map Sized (λ x. x .count ≡ length (x .steps)) (λ x h. h .0) xs sized)
+      (front (replicate 15 0) runs (omega (arith, length-map xs (λ (x : Pattern). x .runs))))
+      (front (replicate 15 0) counts (omega (arith, length-map xs (λ (x : Pattern). x .count))))
+      (front (replicate 99 noStep) (allSteps xs) fits)

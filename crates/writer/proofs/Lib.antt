@@ -1,0 +1,9 @@
+pub mod Taken
+pub mod Sizes
+pub mod Values
+pub mod Writing
+pub mod Back
+pub mod Found
+pub mod Again
+pub mod Laid
+pub mod Round

@@ -1,0 +1,3 @@
+-- The definitions that the contracts of `writer` cite.
+pub mod Encode
+pub mod Write
