@@ -80,10 +80,10 @@ fn show_checked(found: Checked) {
 // The numbers of what the writer gives, and the length of the bank that it wrote.
 fn show_written(written: Written) -> usize {
     match written {
-        Written::Length(length) => {
+        Written::Length(size) => {
             show(0);
-            show(length as u64);
-            length as usize
+            show(size as u64);
+            size as usize
         }
         Written::Refused(found) => {
             show_checked(found);

@@ -63,18 +63,18 @@ module _ (b d : List ℕ) (ok : foundIn b ≡ Accepted) (whole : sized d ≡ tru
   unfolding final
   seen = all b ok d whole es
 
-  kept : final b d es .store ≡ recordOf (lastSaved b d es)
+  kept : final b d es .store ≡ recordOf (lastSaved b es)
   unfolding lastSaved leftOf view
   kept = ap (λ (a : After). a .store) seen ∙ theorem.kept (machine b) (lawful b ok) (map listed es)
 
   -- what the machine's theorem says of the power after the list
   record Ends (p : Power (machine b)) (x : Bool) (a : Answer) : Type 0 where
     power : stateOf b ok p .power ≡ x
-    state : x ≡ true → stateOf b ok p ≡ replayed b d es .0
-    answer : x ≡ true → a ≡ replayed b d es .1
+    state : x ≡ true → stateOf b ok p ≡ replayed b es .0
+    answer : x ≡ true → a ≡ replayed b es .1
     is-dark : x ≡ false → stateOf b ok p ≡ dark
 
-  ends : (p : Power (machine b)) (x : Bool) (a : Answer) → theorem.Agrees-power (machine b) (lawful b ok) p x (leftOf b d es) a → Ends p x a
+  ends : (p : Power (machine b)) (x : Bool) (a : Answer) → theorem.Agrees-power (machine b) (lawful b ok) p x (leftOf b es) a → Ends p x a
   unfolding stateOf dark replayed leftOf
   ends (on s) true a t =
       record {
@@ -87,16 +87,16 @@ module _ (b d : List ℕ) (ok : foundIn b ≡ Accepted) (whole : sized d ≡ tru
   ends off true a t = absurd t
   ends off false a t = record { power = refl; state = λ f. absurd (false≢true f); answer = λ f. absurd (false≢true f); is-dark = λ _. refl }
 
-  ended : Ends (steps (machine b) (start (machine b)) (map listed es) .power) (onAfter b d es) (steps (machine b) (start (machine b)) (map listed es) .answer)
+  ended : Ends (steps (machine b) (start (machine b)) (map listed es) .power) (onAfter b es) (steps (machine b) (start (machine b)) (map listed es) .answer)
   unfolding onAfter leftOf
   ended = ends _ _ _ (theorem.list (machine b) (lawful b ok) (map listed es))
 
   -- the state and the answer, with power on
-  same-state : onAfter b d es ≡ true → final b d es .state ≡ replayed b d es .0
+  same-state : onAfter b es ≡ true → final b d es .state ≡ replayed b es .0
   unfolding view
   same-state t = ap (λ (a : After). a .state) seen ∙ ended .state t
 
-  same-answer : onAfter b d es ≡ true → final b d es .answer ≡ replayed b d es .1
+  same-answer : onAfter b es ≡ true → final b d es .answer ≡ replayed b es .1
   unfolding view
   same-answer t = ap (λ (a : After). a .answer) seen ∙ ended .answer t
 
@@ -106,7 +106,7 @@ module _ (b d : List ℕ) (ok : foundIn b ≡ Accepted) (whole : sized d ≡ tru
   credit-is s zero l = absurd (omega arith)
   credit-is s (suc i) l = let e : suc i - 1 ≡ i = omega arith in ap (λ (n : ℕ). getD (s .credits) n 0) e
 
-  replays : onAfter b d es ≡ true → Replays b d es
+  replays : onAfter b es ≡ true → Replays b es (final b d es)
   unfolding replayed ticksCounted leftOf
   replays t =
       let e = same-state t in
@@ -120,17 +120,17 @@ module _ (b d : List ℕ) (ok : foundIn b ≡ Accepted) (whole : sized d ≡ tru
         signals = ap (signalsIn b) e;
         answer = same-answer t;
         counted = λ k l u.
-            ap (λ (s : State). getD (s .credits) (k - 1) 0) e ∙ credit-is (replayed b d es .0) k l
-            ∙ credits-are b ok (leftOf b d es) k;
+            ap (λ (s : State). getD (s .credits) (k - 1) 0) e ∙ credit-is (replayed b es .0) k l
+            ∙ credits-are b ok (leftOf b es) k;
       }
 
   -- the record is that of a good state
   good-record : Kept b ok (final b d es .store)
   unfolding lastSaved leftOf
-  good-record = record { of = lastSaved b d es; good = theorem.kept-good (machine b) (lawful b ok) (map listed es); is = kept }
+  good-record = record { of = lastSaved b es; good = theorem.kept-good (machine b) (lawful b ok) (map listed es); is = kept }
 
   -- Demand 3.
-  pub demand3 : Demand3 b d es
+  pub demand3 : Demand3 b es (final b d es)
   unfolding view
   demand3 =
       record {

@@ -21,7 +21,7 @@ use Rattle.controller.specs.declared.State.{State}
 use Rattle.controller.specs.declared.Event.{Event}
 use Rattle.controller.specs.declared.Answer.{Answer}
 use Rattle.controller.specs.Plain.{hereOf, acceptedAt, fresh, soundState, Ran, refusedWith, tickRan, pressRan, returnedTo}
-use Rattle.controller.specs.Event.{After, left, recordOf, ranOn, nothing, dark, broughtBack, returnOff, eventOn, eventOff, checked, eventOf, makeOf, eventsFrom}
+use Rattle.controller.specs.Event.{After, left, recordOf, ranOn, nothing, dark, broughtBack, returnOff, eventOn, eventOff, checked, eventPast, eventOf, makeOf, eventsFrom}
 use Rattle.controller.specs.Replay.{Plain, tick, press, listed, plainRan, refusedOff, machine}
 use Rattle.controller.proofs.Instance.{isUnreadable, never-31}
 use Rattle.controller.proofs.Good.{Good, good-sound, good-fresh, good-plain, good-returned, kept-checkpoint, back-again, record-sized}
@@ -59,7 +59,7 @@ module _ (b : List ℕ) (ok : foundIn b ≡ Accepted) where
 
   -- past the refusals 11 to 22
   past : (d : List ℕ) (s : State) (e : Event) → soundState b s ≡ true → sized d ≡ true → eventOf b d s e ≡ cond (s .power) (eventOn b d s e) (eventOff b d s e)
-  unfolding eventOf
+  unfolding eventOf eventPast
   past d s e h z = rw (ok, h, z)
 
   on-event : (d : List ℕ) (s : State) (e : Event) → Good b s → Kept d → eventOf b d s e ≡ eventOn b d s e

@@ -27,12 +27,12 @@ setValueIn b s = setValueOf (hereOf b (s .position) .step) (s .position)
 unfoldable pub signalsIn : List ℕ → State → Signals
 signalsIn b s = signalsOf (settingsAt b) (hereOf b (s .position) .step) (s .position)
 
-module _ (b d : List ℕ) (es : List Event) where
-  -- the list starts from the state and record that making gave; each event gets the bank and the state and record that the one before
-  -- it left
-  unfoldable pub final : After
-  final = eventsFrom b (makeOf b d) es
+-- the list starts from the state and record that making gave; each event gets the bank and the state and record that the one before it
+-- left
+unfoldable pub final : List ℕ → List ℕ → List Event → After
+final b d es = eventsFrom b (makeOf b d) es
 
+module _ (b : List ℕ) (es : List Event) where
   -- what is left of the list, and whether power is on after it
   unfoldable pub leftOf : Left Plain Reading
   leftOf = whatIsLeft (machine b) (map listed es) .left
@@ -52,26 +52,28 @@ module _ (b d : List ℕ) (es : List Event) where
   unfoldable pub ticksCounted : ℕ → ℕ
   ticksCounted k = due (machine b) (counting b) leftOf k
 
-  -- with power on after the list: each state field, the set value, the signals and the whole last answer are the replay machine's, and
-  -- the credit of each step is the number of ticks counted in it, held at 4,294,967,295
-  pub record Replays : Type 0 where
-    pub power : final .state .power ≡ replayed .0 .power
-    pub position : final .state .position ≡ replayed .0 .position
-    pub unsaved : final .state .unsaved ≡ replayed .0 .unsaved
-    pub measured : final .state .measured ≡ replayed .0 .measured
-    pub credits : final .state .credits ≡ replayed .0 .credits
-    pub set-value : setValueIn b (final .state) ≡ setValueIn b (replayed .0)
-    pub signals : signalsIn b (final .state) ≡ signalsIn b (replayed .0)
-    pub answer : final .answer ≡ replayed .1
-    pub counted : (k : ℕ) → 1 ≤ k → k ≤ 99 → getD (final .state .credits) (k - 1) 0 ≡ min (ticksCounted k) 4294967295
+  module _ (a : After) where
+    -- with power on after the list: each state field, the set value, the signals and the whole last answer of a are the replay
+    -- machine's, and the credit of each step is the number of ticks counted in it, held at 4,294,967,295
+    pub record Replays : Type 0 where
+      pub power : a .state .power ≡ replayed .0 .power
+      pub position : a .state .position ≡ replayed .0 .position
+      pub unsaved : a .state .unsaved ≡ replayed .0 .unsaved
+      pub measured : a .state .measured ≡ replayed .0 .measured
+      pub credits : a .state .credits ≡ replayed .0 .credits
+      pub set-value : setValueIn b (a .state) ≡ setValueIn b (replayed .0)
+      pub signals : signalsIn b (a .state) ≡ signalsIn b (replayed .0)
+      pub answer : a .answer ≡ replayed .1
+      pub counted : (k : ℕ) → 1 ≤ k → k ≤ 99 → getD (a .state .credits) (k - 1) 0 ≡ min (ticksCounted k) 4294967295
 
-  pub record Demand3 : Type 0 where
-    pub is-on : final .state .power ≡ onAfter
-    pub replays : onAfter ≡ true → Replays
-    -- beside it: with power off the state is all zeros
-    pub is-dark : onAfter ≡ false → final .state ≡ dark
-    -- the record is that of the last save in what is left, and readable
-    pub kept : final .store ≡ recordOf lastSaved
-    pub readable : readableOf (settingsAt b) (hereOf b (decodeOf (final .store) .position)) (decodeOf (final .store) .position) ≡ true
-    -- and no event is ever refused with 31
-    pub never-31 : numbersOf (final .answer) ≡ 31 ∷ [] → ⊥
+    -- demand 3 of what a list of events left
+    pub record Demand3 : Type 0 where
+      pub is-on : a .state .power ≡ onAfter
+      pub replays : onAfter ≡ true → Replays
+      -- beside it: with power off the state is all zeros
+      pub is-dark : onAfter ≡ false → a .state ≡ dark
+      -- the record is that of the last save in what is left, and readable
+      pub kept : a .store ≡ recordOf lastSaved
+      pub readable : readableOf (settingsAt b) (hereOf b (decodeOf (a .store) .position)) (decodeOf (a .store) .position) ≡ true
+      -- and no event is ever refused with 31
+      pub never-31 : numbersOf (a .answer) ≡ 31 ∷ [] → ⊥

@@ -109,12 +109,14 @@ checked (Checked.Pair i) s d next = left s d (Answer.Bank (Checked.Pair i))
 checked (Checked.Body p k) s d next = left s d (Answer.Bank (Checked.Body p k))
 
 -- then 21, 22, and the rest by power
-unfoldable pub eventOf : List ℕ → List ℕ → State → Event → After
-eventOf b d s e =
-    checked (foundIn b) s d
-    (cond (not (soundState b s)) (left s d Answer.Unsound)
+unfoldable pub eventPast : List ℕ → List ℕ → State → Event → After
+eventPast b d s e =
+    cond (not (soundState b s)) (left s d Answer.Unsound)
     (cond (not (sized d)) (left s d Answer.Buffer)
-    (cond (s .power) (eventOn b d s e) (eventOff b d s e))))
+    (cond (s .power) (eventOn b d s e) (eventOff b d s e)))
+
+unfoldable pub eventOf : List ℕ → List ℕ → State → Event → After
+eventOf b d s e = checked (foundIn b) s d (eventPast b d s e)
 
 -- making gives the fresh state and saves; a refusal, 11 to 14 or 22, gives no state, here all zeros
 unfoldable pub makeOf : List ℕ → List ℕ → After

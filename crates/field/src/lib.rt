@@ -3,7 +3,7 @@
 ghost use mathlib.Core.Path.{_≡_};
 ghost use Prim.Native.Nat.{_+_, _-_, _≤_, _<_, min};
 ghost use lib.ListN.{length};
-ghost use mir.Syntax.{w16};
+ghost use mir.Syntax.{w16, w32};
 ghost use mir.Val.{toZ, ofZ};
 ghost use lib.Seq.{sets};
 ghost use Rattle.field.specs.Field.{field, signedField, digits, stored};
@@ -67,6 +67,24 @@ pub fn signed(b: &[u8], at: usize) -> i16
     ensures { λ r. ⌜ r ≡ signedField w16 (now (b .entry)) at ⌝ }
 {
     signed_of(word(b, at))
+}
+
+// The signed number whose 32 bits these are.
+fn signed_long_of(x: u32) -> i32
+    ensures { λ r. ⌜ r ≡ toZ w32 x ⌝ }
+{
+    if x < 2147483648 {
+        x as i32
+    } else {
+        !((4294967295 - x) as i32)
+    }
+}
+
+// The signed 32-bit number at an offset.
+pub fn signed_long(b: &[u8], at: usize) -> i32
+    ensures { λ r. ⌜ r ≡ signedField w32 (now (b .entry)) at ⌝ }
+{
+    signed_long_of(long(b, at))
 }
 
 // The 16 bits of a signed number.

@@ -1,26 +1,27 @@
 -- The parts of an accepted bank, written again, are the bytes that they were read from.
 -- Assumes nothing.
-use mathlib.Core.Path.{_≡_, refl, sym, ap, _∙_, subst}
+use mathlib.Core.Path.{_≡_, refl, sym, ap, _∙_}
 use mathlib.Core.Bool.{true}
 use mathlib.Core.List.{List, [], _∷_, _++_}
-use Prim.Native.Nat.{ℕ, zero, suc, _+_, _*_, _-_, _/_, _≤_, _<_}
+use Prim.Native.Nat.{ℕ, zero, suc, _+_, _*_, _≤_}
 use native.Mathlib.Omega.{arith}
 use borrow.Author.Tests.{eqb-true, leb-true}
-use lib.ListN.{length, getD, take, drop, take-append-drop, drop-of-length-le}
+use lib.ListN.{length, take, drop, take-append-drop, drop-of-length-le}
 use lib.Seq.{take-add, drop-drop}
 use mir.Syntax.{w16}
-use mir.Val.{ofZ}
 use Rattle.field.specs.Field.{field, signedField}
 use Rattle.field.specs.Row.{row, rowAt, total}
 use Rattle.field.proofs.Laws.{Bytes, signed-bits}
 use Rattle.field.proofs.Rows.{row-read}
 use Rattle.bank.specs.View.{Pattern, tab, settingsAt, stepAt, patternAt, patternsOf, offsetOf, lengthOf, stepsIn}
 use Rattle.bank.specs.Check.{pairRight, pairsFrom, pairsFound, foundIn}
+use Rattle.bank.specs.declared.Step.{Step}
 use Rattle.bank.specs.declared.Checked.the-variants.{Accepted, Pair}
 use Rattle.bank.proofs.Laws.{both-left, both-right}
 use Rattle.bank.proofs.Walk.{length-tab}
 use Rattle.bank.proofs.Facts.{not-pair, test-holds, parts}
-use Rattle.writer.specs.Encode.{paired, settingWidths, settingNumbers, stepWidths, stepNumbers, stepsBytes, bodiesBytes, sizeOf, pairsBytes, encode}
+use Rattle.writer.specs.Encode.{paired, settingWidths, settingNumbers, stepWidths, stepNumbers, stepsBytes, bodiesBytes, pairsBytes, encode}
+use Rattle.writer.proofs.Back.{step-at}
 
 -- two parts side by side are one part
 joined : (b : List ℕ) (i j m n : ℕ) → i + m ≡ j → take m (drop i b) ++ take n (drop j b) ≡ take (m + n) (drop i b)
@@ -44,14 +45,10 @@ module _ (b : List ℕ) (small : Bytes b) where
       ap (row settingWidths) numbers ∙ row-read settingWidths b 0 small h
 
   step-again : (at : ℕ) → at + 9 ≤ length b → row stepWidths (stepNumbers (stepAt b at)) ≡ take 9 (drop at b)
-  unfolding stepAt rowAt tab total
+  unfolding rowAt signedField total
   step-again at h =
-      let wait : at + 4 ≡ at + 2 + 2 = omega arith in
-      let first : at + 5 ≡ at + 2 + 2 + 1 = omega arith in
-      let second : at + 5 + 1 ≡ at + 2 + 2 + 1 + 1 = omega arith in
-      let third : at + 5 + 1 + 1 ≡ at + 2 + 2 + 1 + 1 + 1 = omega arith in
-      let fourth : at + 5 + 1 + 1 + 1 ≡ at + 2 + 2 + 1 + 1 + 1 + 1 = omega arith in
-      (λ i. row stepWidths (signed-bits w16 b at small i ∷ field 2 b (at + 2) ∷ field 1 b (wait i) ∷ field 1 b (first i) ∷ field 1 b (second i) ∷ field 1 b (third i) ∷ field 1 b (fourth i) ∷ []))
+      ap (λ (x : Step). row stepWidths (stepNumbers x)) (step-at b at)
+      ∙ ap (λ (v : ℕ). row stepWidths (v ∷ drop 1 (rowAt stepWidths b at))) (signed-bits w16 b at small)
       ∙ row-read stepWidths b at small h
 
   steps-again : (at m : ℕ) → at + 9 * m ≤ length b → stepsBytes (tab (stepAt b) 9 at m) ≡ take (9 * m) (drop at b)

@@ -1,31 +1,29 @@
 -- A bank that was written is accepted.
 -- Assumes nothing.
-use mathlib.Core.Path.{_≡_, refl, sym, ap, _∙_, subst}
-use mathlib.Core.Bool.{Bool, true, false}
+use mathlib.Core.Path.{_≡_, sym, ap, _∙_, subst}
+use mathlib.Core.Bool.{Bool, true}
 use mathlib.Core.List.{List, [], _∷_, _++_, append-assoc}
-use Prim.Native.Nat.{ℕ, zero, suc, _+_, _*_, _-_, _/_, _≤_, _<_}
-use native.Mathlib.Nat.{le-trans}
+use Prim.Native.Nat.{ℕ, zero, suc, _+_, _*_, _≤_, _<_}
 use native.Mathlib.Omega.{arith}
 use borrow.Author.Tests.{le-leb, leb-true, eq-eqb}
 use lib.IntN.{ℤ}
-use lib.ListN.{length, getD, take, drop, length-append}
+use lib.ListN.{length, getD, drop}
 use lib.Seq.{drop-at}
 use Rattle.field.specs.Field.{field}
 use Rattle.field.specs.Row.{row}
-use Rattle.bank.specs.Range.{both}
 use Rattle.bank.specs.Capacity.{capacityOf}
 use Rattle.bank.specs.View.{Pattern, tab, settingsAt, patternAt, patternsOf, offsetOf, lengthOf, stepsIn}
-use Rattle.bank.specs.Check.{test, then, settingsFound, pairRight, pairsFrom, pairsFound, stepsFound, bodiesFound, ofLength, foundIn}
+use Rattle.bank.specs.Check.{then, settingsFound, pairRight, pairsFrom, pairsFound, bodiesFound, ofLength, foundIn}
 use Rattle.bank.specs.Read.{allSteps}
 use Rattle.bank.specs.declared.Settings.{Settings}
 use Rattle.bank.specs.declared.Patterns.{Patterns}
 use Rattle.bank.specs.declared.Checked.{Checked}
 use Rattle.bank.specs.declared.Checked.the-variants.{Accepted, Pair, Body}
-use Rattle.bank.proofs.Laws.{on, right, next, both-left, both-right, settings-count}
+use Rattle.bank.proofs.Laws.{on, right, next, both-left}
 use Rattle.bank.proofs.Facts.{not-body, test-holds, then-holds, all-fit}
 use Rattle.writer.specs.Encode.{settingWidths, settingNumbers, bodiesBytes, sizeOf, pairsBytes, encode}
 use Rattle.writer.specs.Write.{takenFrom, takenOf, withinCapacity, wrongIn}
-use Rattle.writer.proofs.Taken.{patternIn, Fit, fit-of, length-taken, sumTo, sum-more, all-in}
+use Rattle.writer.proofs.Taken.{Fit, fit-of, length-taken, sumTo, sum-more, all-in}
 use Rattle.writer.proofs.Sizes.{length-settings, length-front, length-bank, full, length-all}
 use Rattle.writer.proofs.Values.{SettingsFit, fours-of, PatternsFit, AllFit, fit-drop, fit-take}
 use Rattle.writer.proofs.Back.{PatternFits, AllFits, Stand, settings-read, stand, patterns-read}

@@ -3,16 +3,16 @@
 use mathlib.Core.Path.{_≡_, refl, sym, ap, _∙_, subst}
 use mathlib.Core.Bool.{true}
 use mathlib.Core.List.{List, [], _∷_, _++_, map, append-assoc}
-use Prim.Native.Nat.{ℕ, zero, suc, _+_, _*_, _-_, _≤_, _<_}
-use native.Mathlib.Nat.{add-zero, zero-add, suc-mul, le-trans}
+use Prim.Native.Nat.{ℕ, zero, suc, _+_, _*_, _≤_, _<_}
+use native.Mathlib.Nat.{add-zero, suc-mul, le-trans}
 use native.Mathlib.Omega.{arith}
 use borrow.Author.Tests.{le-leb}
 use lib.ListN.{length, getD, take, drop, replicate, length-append, length-map}
 use lib.Seq.{sets, sets-eq, drop-drop, drop-at, take-at, getD-drop}
 use Rattle.field.specs.Field.{field}
 use Rattle.bank.specs.Capacity.{capacityOf}
-use Rattle.bank.specs.View.{Pattern, tab, settingsAt, patternAt, patternsOf, patternOf, noStep}
-use Rattle.bank.specs.Check.{bodiesFound, ofLength, foundIn}
+use Rattle.bank.specs.View.{Pattern, tab, settingsAt, patternAt, patternsOf, noStep}
+use Rattle.bank.specs.Check.{ofLength, foundIn}
 use Rattle.bank.specs.Read.{allSteps, laidOut}
 use Rattle.bank.specs.declared.Step.{Step}
 use Rattle.bank.specs.declared.Patterns.{Patterns}

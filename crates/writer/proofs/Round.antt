@@ -1,12 +1,12 @@
 -- Both ways round: a bank that was written reads as what was taken, and an accepted bank written again has the same bytes.
 -- Assumes nothing.
-use mathlib.Core.Path.{_≡_, refl, sym, ap, _∙_}
+use mathlib.Core.Path.{_≡_, ap, _∙_}
 use mathlib.Core.List.{List, [], _∷_, _++_}
-use Prim.Native.Nat.{ℕ, _+_, _≤_, _<_}
+use Prim.Native.Nat.{ℕ, _+_, _≤_}
 use native.Mathlib.Nat.{zero-add}
 use native.Mathlib.Omega.{arith}
-use lib.ListN.{length, take, drop}
-use lib.Seq.{sets, sets-eq, take-at, drop-at}
+use lib.ListN.{length, drop}
+use lib.Seq.{sets, sets-eq}
 use Rattle.field.proofs.Laws.{Bytes}
 use Rattle.bank.specs.View.{Pattern, settingsAt, patternsOf}
 use Rattle.bank.specs.Check.{foundIn}
@@ -16,6 +16,7 @@ use Rattle.bank.specs.declared.Patterns.{Patterns}
 use Rattle.bank.specs.declared.Bank.{Bank}
 use Rattle.bank.specs.declared.Checked.{Checked}
 use Rattle.bank.specs.declared.Checked.the-variants.{Accepted}
+use Rattle.bank.proofs.Longest.{at-most}
 use Rattle.writer.specs.Encode.{encode}
 use Rattle.writer.specs.Write.{Left, takenOf, wrongIn, writtenNumbers, writeAs, writeOf}
 use Rattle.writer.proofs.Writing.{written-as}
@@ -28,6 +29,15 @@ use Rattle.writer.proofs.Laid.{right-again, taken-again}
 pub written-reads : (s : Settings) (ps : Patterns) → SettingsFit s → PatternsFit ps → wrongIn s (takenOf s ps) ≡ Accepted
     → (foundIn (encode s (takenOf s ps)) ≡ Accepted) × (settingsAt (encode s (takenOf s ps)) ≡ s) × (patternsOf (encode s (takenOf s ps)) ≡ takenOf s ps)
 written-reads s ps f g ok = (written-accepted s ps f g ok, reads-settings s ps f g ok, reads-patterns s ps f g ok)
+
+-- so the reader gives back the settings and the patterns, and the bank is no longer than the longest
+pub written-read : (s : Settings) (ps : Patterns) → SettingsFit s → PatternsFit ps → wrongIn s (takenOf s ps) ≡ Accepted
+    → readOf (encode s (takenOf s ps)) ≡ record { found = Accepted; settings = s; patterns = laidOut (takenOf s ps) }
+unfolding readOf readAs
+written-read s ps f g ok = λ i. readAs (written-accepted s ps f g ok i) (reads-settings s ps f g ok i) (reads-patterns s ps f g ok i)
+
+pub written-length : (s : Settings) (ps : Patterns) → SettingsFit s → PatternsFit ps → wrongIn s (takenOf s ps) ≡ Accepted → length (encode s (takenOf s ps)) ≤ 1011
+written-length s ps f g ok = at-most (encode s (takenOf s ps)) (written-accepted s ps f g ok)
 
 -- what an accepted write leaves: 0 and the length, the bank at the front, and the bytes past its end as they were
 pub written-leaves : (s : Settings) (ps : Patterns) (out : List ℕ) → wrongIn s (takenOf s ps) ≡ Accepted → length (encode s (takenOf s ps)) ≤ length out

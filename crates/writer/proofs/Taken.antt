@@ -13,7 +13,7 @@ use lib.ListN.{length, getD, take, drop}
 use lib.Seq.{drop-cons}
 use Rattle.bank.specs.Capacity.{capacityOf}
 use Rattle.bank.specs.View.{Pattern}
-use Rattle.bank.specs.Check.{settingsFound, stepRight, stepsFound, test, then, bodiesFound}
+use Rattle.bank.specs.Check.{stepRight, stepsFound, test, then, bodiesFound}
 use Rattle.bank.specs.Range.{both}
 use lib.Dec.{leb}
 use Rattle.bank.specs.declared.Settings.{Settings}
@@ -144,6 +144,10 @@ fit-of s ps e =
       count = λ p h. subst (λ (i : ℕ). getD (ps .counts) i 0 ≤ capacityOf (s .patterns)) (zero-add p)
           (counts-fit (s .low) (s .high) ps (s .patterns) 1 0 0 (s .patterns) p (t .1) h);
     }
+
+-- by a number that is theirs
+pub fit-by : (s : Settings) (ps : Patterns) {n : ℕ} → n ≡ s .patterns → wrongIn s (takenOf s ps) ≡ Accepted → Fit n (ps .counts)
+fit-by s ps e ok = subst (λ (n : ℕ). Fit n (ps .counts)) (sym e) (fit-of s ps ok)
 
 -- the steps before place p
 unfoldable pub sumTo : List ℕ → ℕ → ℕ

@@ -13,7 +13,7 @@ ghost use Rattle.writer.specs.Write.{left, writeOf};
 mod pattern;
 mod put;
 
-// What writing a bank gives. `numbersOf` gives the document's number and values of each case.
+// What writing a bank gives. `writtenNumbers` gives the document's number and values of each case.
 pub enum Written {
     Length(u16),
     Refused(Checked),

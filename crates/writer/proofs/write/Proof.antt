@@ -1,20 +1,18 @@
 -- `writer::write` meets its contract: 12, 14 and 15 in turn, else the bank.
 -- Assumes nothing.
-use mathlib.Core.Path.{_≡_, refl, sym, ap, _∙_, subst}
-use mathlib.Core.List.{List, [], _∷_}
-use Prim.Native.Nat.{ℕ, _+_, _*_, _-_, _≤_, _<_}
+use mathlib.Core.Path.{_≡_, sym, ap, _∙_}
+use mathlib.Core.List.{List}
+use Prim.Native.Nat.{ℕ, _+_, _*_, _≤_}
 use native.Mathlib.Omega.{arith}
-use lib.ListN.{length, getD, take, drop}
+use lib.ListN.{length}
 use denote.Ref.{now}
-use lib.Seq.{sets}
-use Rattle.bank.specs.Check.{settingsFound, bodiesFound}
-use Rattle.bank.specs.Read.{allSteps}
+use Rattle.bank.specs.Check.{settingsFound}
 use Rattle.bank.specs.declared.Checked.{Checked}
 use Rattle.bank.specs.declared.Checked.the-variants.{Accepted}
 use Rattle.bank.proofs.Laws.{numbers-tell, accepted, ends, goes}
 use Rattle.writer.specs.declared.Written.the-variants.{Length, Refused, Full}
 use Rattle.writer.specs.Encode.{encode}
-use Rattle.writer.specs.Write.{takenOf, takenFrom, withinCapacity, wrongIn, left, writeAs, writeOf}
+use Rattle.writer.specs.Write.{takenOf, wrongIn, left, writeAs, writeOf}
 use Rattle.writer.proofs.Taken.{fit-of, length-taken, all-in}
 use Rattle.writer.proofs.Sizes.{length-all, length-bank}
 use Rattle.writer.proofs.Values.{all-steps, fours}

@@ -1,11 +1,11 @@
 -- `writer::pattern::check_patterns` meets its contract. The invariants: all the patterns are found to be what the rest of them is found
 -- to be; inside, what the rest of the steps, and then the rest of the patterns, are found to be.
 -- Assumes nothing.
-use mathlib.Core.Path.{_≡_, refl, sym, ap, _∙_, subst}
-use mathlib.Core.List.{List, [], _∷_}
+use mathlib.Core.Path.{_≡_, sym, ap, _∙_}
+use mathlib.Core.List.{List}
 use Prim.Native.Nat.{ℕ, _+_, _*_, _-_, _≤_, _<_}
 use native.Mathlib.Omega.{arith}
-use lib.ListN.{length, getD, take, drop}
+use lib.ListN.{length, getD}
 use borrow.Author.Tests.{leb-true}
 use mir.Syntax.{w16}
 use mir.Val.{toZ, ofZ}

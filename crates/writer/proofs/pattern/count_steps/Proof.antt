@@ -1,13 +1,13 @@
 -- `writer::pattern::count_steps` meets its contract. The invariant: the steps counted are those before place p.
 -- Assumes nothing.
-use mathlib.Core.Path.{_≡_, refl, sym, ap, _∙_, subst}
-use mathlib.Core.List.{List, [], _∷_}
-use Prim.Native.Nat.{ℕ, _+_, _*_, _-_, _≤_, _<_}
+use mathlib.Core.Path.{_≡_, refl, sym, ap, _∙_}
+use mathlib.Core.List.{List}
+use Prim.Native.Nat.{ℕ, _-_, _≤_}
 use native.Mathlib.Omega.{arith}
-use lib.ListN.{length, getD, take, drop}
+use lib.ListN.{length}
 use Rattle.bank.specs.Read.{allSteps}
 use Rattle.writer.specs.Write.{takenOf, takenFrom}
-use Rattle.writer.proofs.Taken.{Fit, fit-of, sumTo, sum-more, next-in}
+use Rattle.writer.proofs.Taken.{Fit, fit-by, sumTo, sum-more, next-in}
 use Rattle.writer.proofs.Values.{all-steps}
 use Rattle.writer.proofs.Sizes.{length-all}
 use borrow.Author.Needs.{needs}
@@ -21,7 +21,7 @@ abbrev μ-loop : tie.MeasureT-loop
 μ-loop n counts base₀ p₀ base p = n - p
 
 fit : (c : tie.After-wide Inv-loop μ-loop) → Fit (c .wide .result) (c .before .args .ps .counts)
-fit c = let a = c .before .args in subst (λ (n : ℕ). Fit n (a .ps .counts)) (sym (c .wide .ensures)) (fit-of (a .s) (a .ps) (c .before .pre))
+fit c = fit-by (c .before .args .s) (c .before .args .ps) (c .wide .ensures) (c .before .pre)
 
 wide-requires : tie.Need-wide-requires Inv-loop μ-loop
 wide-requires c κs = search needs

@@ -1,7 +1,6 @@
 -- `writer::pattern::start_right` meets its contract.
 -- Assumes nothing.
-use mathlib.Core.Path.{_≡_, refl, sym, ap, _∙_}
-use native.Mathlib.Omega.{arith}
+use mathlib.Core.Path.{sym}
 use borrow.Author.Tests.{le-leb, lt-leb}
 use Rattle.bank.proofs.Laws.{on, off}
 use Rattle.writer.proofs.pattern.start_right.Statement.{statement}

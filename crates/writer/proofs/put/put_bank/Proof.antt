@@ -1,16 +1,15 @@
 -- `writer::put::put_bank` meets its contract: settings, pairs and bodies, one behind the other.
 -- Assumes nothing.
-use mathlib.Core.Path.{_≡_, refl, sym, ap, _∙_, subst}
-use mathlib.Core.List.{List, [], _∷_}
-use Prim.Native.Nat.{ℕ, _+_, _*_, _-_, _≤_, _<_}
+use mathlib.Core.Path.{_≡_, sym, _∙_}
+use mathlib.Core.List.{List}
+use Prim.Native.Nat.{ℕ, _+_, _*_, _≤_}
 use native.Mathlib.Omega.{arith}
-use lib.ListN.{length, getD, take, drop}
+use lib.ListN.{length}
 use denote.Ref.{now}
 use lib.Seq.{sets}
-use Rattle.field.specs.Row.{row}
 use Rattle.bank.specs.View.{Pattern}
 use Rattle.bank.specs.Read.{allSteps}
-use Rattle.writer.specs.Encode.{settingWidths, settingNumbers, pairsBytes, bodiesBytes, encode}
+use Rattle.writer.specs.Encode.{pairsBytes, bodiesBytes}
 use Rattle.writer.specs.Write.{takenOf}
 use Rattle.writer.proofs.Taken.{length-taken}
 use Rattle.writer.proofs.Values.{fours}

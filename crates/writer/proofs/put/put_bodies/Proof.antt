@@ -1,9 +1,9 @@
 -- `writer::put::put_bodies` meets its contract. The invariant: the whole, written into the buffer as it was, is the rest, written
 -- into the buffer as it is.
 -- Assumes nothing.
-use mathlib.Core.Path.{_≡_, refl, sym, ap, _∙_, subst}
+use mathlib.Core.Path.{_≡_, refl, sym, ap, _∙_}
 use mathlib.Core.List.{List, [], _∷_}
-use Prim.Native.Nat.{ℕ, _+_, _*_, _-_, _≤_, _<_}
+use Prim.Native.Nat.{ℕ, _+_, _*_, _-_, _≤_}
 use native.Mathlib.Omega.{arith}
 use lib.ListN.{length, getD, take, drop}
 use denote.Ref.{now}
@@ -15,7 +15,7 @@ use Rattle.bank.specs.declared.Step.{Step}
 use Rattle.bank.specs.declared.Patterns.{Patterns}
 use Rattle.writer.specs.Encode.{stepsBytes, bodiesBytes}
 use Rattle.writer.specs.Write.{takenOf, takenFrom}
-use Rattle.writer.proofs.Taken.{rest, rest-start, rest-end, Fit, fit-of, sumTo, sum-more, next-in}
+use Rattle.writer.proofs.Taken.{rest, rest-start, rest-end, Fit, fit-by, sumTo, sum-more, next-in}
 use Rattle.writer.proofs.Values.{all-steps}
 use Rattle.writer.proofs.Sizes.{bodies-size, bodies-turn}
 use borrow.Author.Needs.{needs}
@@ -33,9 +33,7 @@ abbrev μ-loop : tie.MeasureT-loop
 μ-loop out₀ from n runs counts steps widths at₀ base₀ p₀ out at base p = n - p
 
 fit : (c : tie.After-wide Inv-loop μ-loop) → Fit (c .wide .result) (c .before .before .args .ps .counts)
-fit c =
-    let a = c .before .before .args in
-    subst (λ (n : ℕ). Fit n (a .ps .counts)) (sym (c .wide .ensures)) (fit-of (a .s) (a .ps) (c .before .before .pre .0))
+fit c = fit-by (c .before .before .args .s) (c .before .before .args .ps) (c .wide .ensures) (c .before .before .pre .0)
 
 -- the next pattern's steps are there, and its body has room
 room : (c : tie.After-wide2 Inv-loop μ-loop) →

@@ -1,15 +1,14 @@
 -- `writer::put::put_halves` meets its contract.
 -- Assumes nothing.
-use mathlib.Core.Path.{_≡_, refl, sym, ap, _∙_}
+use mathlib.Core.Path.{sym, ap, _∙_}
 use native.Mathlib.Omega.{arith}
 use mathlib.Core.List.{List, [], _∷_}
 use Prim.Native.Nat.{ℕ}
 use denote.Ref.{now}
-use lib.ListN.{length, getD, replicate}
+use lib.ListN.{replicate}
 use lib.Seq.{sets}
 use Rattle.field.specs.Row.{row, total}
 use Rattle.field.proofs.Rows.{stored-row}
-use Rattle.writer.specs.Encode.{paired}
 use Rattle.writer.proofs.Sizes.{paired-four}
 use borrow.Author.Needs.{needs}
 use Rattle.writer.proofs.put.put_halves.Statement.{statement}

@@ -1,11 +1,10 @@
 -- `writer::put::put_head` meets its contract.
 -- Assumes nothing.
-use mathlib.Core.Path.{_≡_, refl, sym, ap, _∙_}
+use mathlib.Core.Path.{ap, _∙_}
 use native.Mathlib.Omega.{arith}
 use mathlib.Core.List.{List, [], _∷_}
 use Prim.Native.Nat.{ℕ}
 use denote.Ref.{now}
-use lib.ListN.{length, getD, replicate}
 use lib.Seq.{sets}
 use Rattle.field.specs.Row.{row, total}
 use Rattle.field.proofs.Rows.{stored-row}
@@ -13,7 +12,7 @@ use mir.Syntax.{w16}
 use mir.Val.{ofZ}
 use lib.ListN.{take}
 use Rattle.bank.proofs.Laws.{bits}
-use Rattle.writer.specs.Encode.{settingWidths, settingNumbers}
+use Rattle.writer.specs.Encode.{settingWidths}
 use borrow.Author.Needs.{needs}
 use Rattle.writer.proofs.put.put_head.Statement.{statement}
 use Rattle.writer.proofs.put.put_head.Tie as tie

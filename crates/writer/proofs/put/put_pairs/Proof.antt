@@ -1,11 +1,11 @@
 -- `writer::put::put_pairs` meets its contract. The invariant: the whole, written into the buffer as it was, is the rest, written
 -- into the buffer as it is.
 -- Assumes nothing.
-use mathlib.Core.Path.{_≡_, refl, sym, ap, _∙_, subst}
+use mathlib.Core.Path.{_≡_, refl, sym, ap, _∙_}
 use mathlib.Core.List.{List, [], _∷_}
-use Prim.Native.Nat.{ℕ, _+_, _*_, _-_, _≤_, _<_}
+use Prim.Native.Nat.{ℕ, _+_, _*_, _-_, _≤_}
 use native.Mathlib.Omega.{arith}
-use lib.ListN.{length, getD, take, drop}
+use lib.ListN.{length, getD}
 use denote.Ref.{now}
 use lib.Seq.{sets}
 use native.Mathlib.Nat.{sub-zero}
@@ -13,7 +13,7 @@ use Rattle.field.specs.Row.{row, total}
 use Rattle.field.proofs.Rows.{stored-row}
 use Rattle.writer.specs.Encode.{pairsBytes}
 use Rattle.writer.specs.Write.{takenOf, takenFrom}
-use Rattle.writer.proofs.Taken.{Fit, fit-of, sumTo, next-in}
+use Rattle.writer.proofs.Taken.{Fit, fit-by, sumTo, next-in}
 use Rattle.writer.proofs.Values.{all-steps}
 use Rattle.writer.proofs.Sizes.{pairsOf, pairs-from, pairs-turn, pairs-end}
 use borrow.Author.Needs.{needs}
@@ -29,9 +29,7 @@ abbrev μ-loop : tie.MeasureT-loop
 μ-loop out₀ n counts widths due₀ p₀ out due p = n - p
 
 fit : (c : tie.After-wide Inv-loop μ-loop) → Fit (c .wide .result) (c .before .before .args .ps .counts)
-fit c =
-    let a = c .before .before .args in
-    subst (λ (n : ℕ). Fit n (a .ps .counts)) (sym (c .wide .ensures)) (fit-of (a .s) (a .ps) (c .before .before .pre .0))
+fit c = fit-by (c .before .before .args .s) (c .before .before .args .ps) (c .wide .ensures) (c .before .before .pre .0)
 
 -- the number of steps of the next pattern
 below : (c : tie.After-wide2 Inv-loop μ-loop) → c .wide2 .result ≤ 99
@@ -65,7 +63,7 @@ add-next : tie.Need-add-next Inv-loop μ-loop
 add-next c = omega (arith, fit (c .before .before .before .before) .few, below c)
 
 cast-t19 : tie.Need-cast-t19 Inv-loop μ-loop
-cast-t19 c = omega (arith, fit (c .before .before .before .before) .few)
+cast-t19 c = omega (arith, fit (c .before .before .before .before) .few, below c)
 
 cast-t20 : tie.Need-cast-t20 Inv-loop μ-loop
 cast-t20 c = omega (arith, below c)

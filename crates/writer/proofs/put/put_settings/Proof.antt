@@ -1,14 +1,13 @@
 -- `writer::put::put_settings` meets its contract: three rows, one behind the other.
 -- Assumes nothing.
-use mathlib.Core.Path.{_≡_, refl, sym, ap, _∙_}
+use mathlib.Core.Path.{_≡_, refl, ap, _∙_}
 use native.Mathlib.Omega.{arith}
-use mathlib.Core.List.{List, [], _∷_}
-use Prim.Native.Nat.{ℕ, _+_}
+use mathlib.Core.List.{List}
+use Prim.Native.Nat.{ℕ}
 use denote.Ref.{now}
-use lib.ListN.{length, getD, replicate}
+use lib.ListN.{length, replicate}
 use lib.Seq.{sets}
 use Rattle.field.specs.Row.{row, total}
-use Rattle.field.proofs.Rows.{stored-row}
 use mathlib.Core.List.{_++_}
 use lib.ListN.{take}
 use Rattle.field.proofs.Rows.{sets-rows}

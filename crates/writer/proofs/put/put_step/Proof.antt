@@ -1,18 +1,17 @@
 -- `writer::put::put_step` meets its contract.
 -- Assumes nothing.
-use mathlib.Core.Path.{_≡_, refl, sym, ap, _∙_}
+use mathlib.Core.Path.{ap, _∙_}
 use native.Mathlib.Omega.{arith}
 use mathlib.Core.List.{List, [], _∷_}
 use Prim.Native.Nat.{ℕ}
 use denote.Ref.{now}
-use lib.ListN.{length, getD, replicate}
 use lib.Seq.{sets}
 use Rattle.field.specs.Row.{row, total}
 use Rattle.field.proofs.Rows.{stored-row}
 use mir.Syntax.{w16}
 use mir.Val.{ofZ}
 use Rattle.bank.proofs.Laws.{bits}
-use Rattle.writer.specs.Encode.{stepWidths, stepNumbers}
+use Rattle.writer.specs.Encode.{stepWidths}
 use borrow.Author.Needs.{needs}
 use Rattle.writer.proofs.put.put_step.Statement.{statement}
 use Rattle.writer.proofs.put.put_step.Tie as tie
