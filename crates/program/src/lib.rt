@@ -1,29 +1,25 @@
-// The program's moves: what a second, a command or a return makes of a position in a pattern. Tests are joined by `&` and `|`, which
-// have no branch.
+// A position in a pattern: its set value, its signals, and what a second and next make of it. Tests are joined by `&` and `|`, which have
+// no branch.
 use bank::Step;
 
-mod moves;
 mod ramp;
-mod record;
 mod signal;
 mod temps;
 mod time;
 
-pub use moves::back;
-pub use moves::feed;
-pub use moves::minus;
-pub use moves::paused;
-pub use moves::plus;
-pub use moves::start_base;
-pub use moves::started;
-pub use moves::stopped;
-pub use moves::takes;
+pub use ramp::endless;
+pub use ramp::in_run;
+pub use ramp::seconds;
 pub use ramp::set_value;
-pub use record::readable;
-pub use record::returned;
 pub use signal::signals as signals_at;
+pub use temps::distance;
+pub use temps::in_range;
+pub use temps::is_zero;
+pub use time::ended;
 pub use time::limit;
+pub use time::next;
 pub use time::tick;
+pub use time::wait_seconds;
 
 // Where a run stands.
 pub struct Position {

@@ -1,0 +1,2 @@
+-- An answer's number and values, as a struct.
+pub mod Numbers

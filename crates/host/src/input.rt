@@ -1,0 +1,76 @@
+// The patterns that bytes give to the writer: 15 pairs of runs and s, 99 steps of nine bytes.
+ghost use mathlib.Core.Path.{_≡_};
+ghost use Prim.Native.Nat.{_<_};
+ghost use Rattle.field.specs.Field.{field};
+ghost use Rattle.bank.specs.View.{tab, stepAt};
+ghost use Rattle.host.specs.Calls.{patternsFrom};
+use bank::Patterns;
+use bank::Step;
+use field::byte;
+use field::signed;
+use field::word;
+
+// Fifteen bytes, two apart.
+fn each_second(pairs: &[u8], at: usize) -> [u8; 15]
+    requires { ⌜ at < 1000 ⌝ }
+    ensures { λ r. ⌜ r ≡ tab (field 1 (now (pairs .entry))) 2 at 15 ⌝ }
+{
+    let mut xs = [0u8; 15];
+    let mut i: usize = 0;
+    while i < 15 {
+        xs[i] = byte(pairs, at + 2 * i);
+        i += 1;
+    }
+    xs
+}
+
+// The step at an offset.
+fn step_at(steps: &[u8], at: usize) -> Step
+    requires { ⌜ at < 1000 ⌝ }
+    ensures { λ r. ⌜ r ≡ stepAt (now (steps .entry)) at ⌝ }
+{
+    let target = signed(steps, at);
+    let minutes = word(steps, at + 2);
+    let wait = byte(steps, at + 4);
+    let signals = [
+        byte(steps, at + 5),
+        byte(steps, at + 6),
+        byte(steps, at + 7),
+        byte(steps, at + 8),
+    ];
+    Step {
+        target,
+        minutes,
+        wait,
+        signals,
+    }
+}
+
+// The 99 steps.
+fn all_steps(steps: &[u8]) -> [Step; 99]
+    ensures { λ r. ⌜ r ≡ tab (stepAt (now (steps .entry))) 9 0 99 ⌝ }
+{
+    let first = step_at(steps, 0);
+    let mut out = [first; 99];
+    let mut i: usize = 0;
+    while i < 99 {
+        let x = step_at(steps, 9 * i);
+        out[i] = x;
+        i += 1;
+    }
+    out
+}
+
+// The patterns.
+pub fn patterns_from(pairs: &[u8], steps: &[u8]) -> Patterns
+    ensures { λ r. ⌜ r ≡ patternsFrom (now (pairs .entry)) (now (steps .entry)) ⌝ }
+{
+    let runs = each_second(pairs, 0);
+    let counts = each_second(pairs, 1);
+    let all = all_steps(steps);
+    Patterns {
+        runs,
+        counts,
+        steps: all,
+    }
+}

@@ -1,0 +1,3 @@
+-- The laws that the proofs of `line` cite, and the law of long lines.
+pub mod Laws
+pub mod Long

@@ -1,0 +1,26 @@
+-- `line::text::put_two` meets its contract. Assumes nothing.
+use mathlib.Core.Path.{_∙_}
+use mathlib.Core.List.{[], _∷_}
+use lib.IntN.{pos}
+use native.Mathlib.Omega.{arith}
+use borrow.Author.Needs.{needs}
+use Rattle.line.proofs.text.put_two.Statement.{statement}
+use Rattle.line.proofs.text.put_two.Tie as tie
+
+put-first-requires : tie.Need-put-first-requires
+put-first-requires c κs = search needs
+
+put-next-requires : tie.Need-put-next-requires
+put-next-requires c κs = search needs
+
+put-end-requires : tie.Need-put-end-requires
+put-end-requires c κs = search needs
+
+same-length : tie.Need-same-length
+same-length c = search needs
+
+returns : tie.Need-returns
+returns c = (c .before .before .put-end .ensures .0 ∙ c .before .before .before .before .before .before .put-next .ensures .0 [] ∙ c .before .before .before .before .before .before .before .before .before .before .put-first .ensures .0 (pos (c .before .before .before .before .before .before .before .before .before .before .before .before .before .args .b) ∷ []), omega arith)
+
+pub put-two-spec : {M : Type 1} → statement M
+put-two-spec = tie.close (tie.spec put-first-requires put-next-requires put-end-requires same-length returns)

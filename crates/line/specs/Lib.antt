@@ -1,0 +1,3 @@
+-- One line of the program `sheet`, and what it prints.
+pub mod Line
+pub mod Text

@@ -1,0 +1,4 @@
+pub mod Facts
+pub mod Cases
+pub mod Stays
+pub mod Laws

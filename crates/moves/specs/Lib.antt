@@ -1,0 +1,2 @@
+-- The definitions that the contracts of `moves` cite, in the order of the document.
+pub mod Moves

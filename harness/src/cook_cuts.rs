@@ -1,0 +1,180 @@
+//! A fixed cook with waits and two passes, cut after every second and every key.
+
+use model::Settings;
+
+use crate::banks;
+use crate::calls::Comparer;
+use crate::events::{
+    Raw, BACK, CUT, FEED, MINUS, PAUSE, PLUS, RESET, RETURN, RETURN_OVER, RETURN_UNDER, SELECT,
+    START, TICK, TICK_OVER,
+};
+use crate::lists::Held;
+use crate::report::{Compared, Difference};
+
+/// Events of the cook that follow a return.
+const TAIL: usize = 130;
+/// Seconds of the cook.
+const SECONDS: usize = 860;
+
+/// Keys, each pressed after so many seconds.
+const KEYS: [(usize, u32, i32); 16] = [
+    (1, SELECT, 2),
+    (1, START, 0),
+    (20, PAUSE, 0),
+    (27, PAUSE, 0),
+    (33, PLUS, 0),
+    (90, MINUS, 0),
+    (150, BACK, 0),
+    (260, FEED, 0),
+    (300, PLUS, 0),
+    (380, START, 0),
+    (480, MINUS, 0),
+    (640, FEED, 0),
+    (640, PLUS, 0),
+    (760, RESET, 0),
+    (760, SELECT, 1),
+    (770, START, 0),
+];
+
+fn bank(outage: u8) -> Vec<u8> {
+    let settings = Settings {
+        n: 2,
+        start: 0,
+        outage,
+        sll: 0,
+        slh: 1_000,
+        start_value: 200,
+        width: 40,
+        filter: 10,
+        zones: [0, 15, 0, 5],
+        waits: [2, 1, 1, 5_999],
+        on: [0, 1, 0, 0],
+        off: [1, 3, 0, 5_999],
+    };
+    let steps = [
+        (250, 1, 0),
+        (400, 1, 1),
+        (420, 0, 2),
+        (560, 2, 0),
+        (300, 1, 3),
+        (300, 0, 4),
+    ];
+    banks::fixed(settings, &[(1, 1), (2, 5)], &steps, [1, 2, 5, 4]).bank()
+}
+
+/// The cook: its events, and what each leaves, making's first.
+struct Cook {
+    bank: Vec<u8>,
+    list: Vec<Raw>,
+    helds: Vec<Held>,
+    /// The room's temperature before each event.
+    room: Vec<i32>,
+}
+
+impl Cook {
+    fn new(comparer: &mut Comparer, outage: u8) -> Result<Cook, Difference> {
+        let bank = bank(outage);
+        let helds = vec![Held::made(comparer, &bank)?];
+        let mut cook = Cook {
+            bank,
+            list: Vec::new(),
+            helds,
+            room: vec![200],
+        };
+        for second in 0..SECONDS {
+            for (_, kind, value) in KEYS.into_iter().filter(|key| key.0 == second) {
+                cook.give(comparer, (kind, value))?;
+            }
+            let reading = cook.reading();
+            cook.give(comparer, reading)?;
+        }
+        Ok(cook)
+    }
+
+    fn last(&self) -> &Held {
+        self.helds.last().expect("making left a state")
+    }
+
+    fn give(&mut self, comparer: &mut Comparer, event: Raw) -> Compared {
+        let next = self.last().after(comparer, &self.bank, event)?;
+        let room = self.room[self.room.len() - 1];
+        let set_value = i32::from((next.word >> 32) as i16);
+        let warmer = if set_value == 0 {
+            0
+        } else {
+            (set_value - room).clamp(-3, 4)
+        };
+        self.room.push(room + warmer);
+        self.list.push(event);
+        self.helds.push(next);
+        Ok(())
+    }
+
+    /// The next tick: the room's temperature, over range now and then.
+    fn reading(&self) -> Raw {
+        match self.list.len() % 97 {
+            96 => (TICK_OVER, 0),
+            _ => (TICK, self.room[self.room.len() - 1]),
+        }
+    }
+
+    /// A cut before the event of a number, a return later, and the cook goes on.
+    fn cut(&self, comparer: &mut Comparer, number: usize, back: Raw) -> Compared {
+        let mut list = self.list[..number].to_vec();
+        let mut held = self.helds[number].clone();
+        let mut give = |comparer: &mut Comparer, event: Raw, compare: bool| -> Compared {
+            held = held.after(comparer, &self.bank, event)?;
+            list.push(event);
+            if compare {
+                held.same_by_replay(comparer, &self.bank, &list)?;
+                held.same_by_run(comparer, &self.bank, &list)?;
+            }
+            Ok(())
+        };
+        give(comparer, (CUT, 0), true)?;
+        give(comparer, (TICK, 300), false)?;
+        give(comparer, (RETURN, 30_000), false)?;
+        give(comparer, back, true)?;
+        if number % 2 == 1 {
+            give(comparer, (PAUSE, 0), false)?;
+        }
+        let rest = &self.list[number..];
+        let tail = &rest[..rest.len().min(TAIL)];
+        for (place, &event) in tail.iter().enumerate() {
+            give(comparer, event, place + 1 == tail.len())?;
+        }
+        comparer.tally.cook_cuts += 1;
+        Ok(())
+    }
+}
+
+/// Whether the cook shows what it is for: waits, a second pass, an end.
+fn complete(cook: &Cook) -> bool {
+    let waits = cook.helds.iter().any(|held| held.state[10..14] != [0; 4]);
+    let second = cook.helds.iter().any(|held| held.state[4] == 2);
+    let end = cook.helds.iter().any(|held| held.state[1] == 3);
+    waits && second && end
+}
+
+/// Cuts after every event of the cook, with every outage choice.
+pub fn compare(comparer: &mut Comparer) -> Compared {
+    for outage in 0..3 {
+        let cook = Cook::new(comparer, outage)?;
+        assert!(
+            complete(&cook),
+            "the fixed cook has waits, two passes and an end"
+        );
+        for number in 0..=cook.list.len() {
+            let room = cook.room[number];
+            for back in [
+                (RETURN, room),
+                (RETURN, room + 41),
+                (RETURN_OVER, 0),
+                (RETURN_UNDER, 0),
+            ] {
+                cook.cut(comparer, number, back)?;
+            }
+        }
+    }
+    Ok(())
+}

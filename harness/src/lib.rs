@@ -1,0 +1,18 @@
+//! Comparison of the static library with the outside model of document 01.
+
+pub mod banks;
+pub mod calls;
+pub mod cook_cuts;
+pub mod events;
+pub mod hostile;
+pub mod lists;
+pub mod oracle;
+pub mod random;
+pub mod replay;
+pub mod report;
+pub mod sheet;
+pub mod states;
+pub mod tally;
+pub mod timing;
+pub mod walk;
+pub mod writer;

@@ -1,0 +1,163 @@
+//! Every list up to some length of a small alphabet, walked as a tree.
+
+use model::Settings;
+
+use crate::banks;
+use crate::calls::Comparer;
+use crate::events::{
+    self, Raw, BACK, CUT, FEED, MINUS, PAUSE, PLUS, RESET, RETURN, RETURN_OVER, RETURN_UNDER,
+    SELECT, START, TICK, TICK_OVER,
+};
+use crate::lists::Held;
+use crate::random::Random;
+use crate::report::Compared;
+
+/// A tree of lists over one bank.
+struct Tree<'a> {
+    bank: &'a [u8],
+    alphabet: &'a [Raw],
+    list: Vec<Raw>,
+}
+
+impl Tree<'_> {
+    /// Every list that goes on from here by up to `depth` events.
+    fn walk(&mut self, comparer: &mut Comparer, held: &Held, depth: usize) -> Compared {
+        for &event in self.alphabet {
+            let next = held.after(comparer, self.bank, event)?;
+            self.list.push(event);
+            next.same_by_run(comparer, self.bank, &self.list)?;
+            next.same_by_replay(comparer, self.bank, &self.list)?;
+            comparer.tally.walked += 1;
+            if depth > 1 {
+                self.walk(comparer, &next, depth - 1)?;
+            }
+            self.list.pop();
+        }
+        Ok(())
+    }
+}
+
+fn walk(comparer: &mut Comparer, bank: &[u8], alphabet: &[Raw], depth: usize) -> Compared {
+    let made = Held::made(comparer, bank)?;
+    made.same_by_run(comparer, bank, &[])?;
+    made.same_by_replay(comparer, bank, &[])?;
+    Tree {
+        bank,
+        alphabet,
+        list: Vec::new(),
+    }
+    .walk(comparer, &made, depth)
+}
+
+/// A small bank of one pattern, and the alphabet of its lists.
+struct Small {
+    start: u8,
+    outage: u8,
+    runs: u8,
+    steps: [(i16, u16, u8); 2],
+    alphabet: [Raw; 10],
+}
+
+/// Short steps and passes, with the keys that move through them.
+const PASSES: Small = Small {
+    start: 1,
+    outage: 2,
+    runs: 2,
+    steps: [(600, 0, 0), (300, 0, 0)],
+    alphabet: [
+        (TICK, 600),
+        (START, 0),
+        (PAUSE, 0),
+        (RESET, 0),
+        (FEED, 0),
+        (BACK, 0),
+        (CUT, 0),
+        (RETURN, 600),
+        (RETURN_UNDER, 0),
+        (SELECT, 1),
+    ],
+};
+
+/// A wait and an endless step, with readings in and out of the outage width.
+const OUTAGES: Small = Small {
+    start: 0,
+    outage: 2,
+    runs: 0,
+    steps: [(400, 0, 1), (400, 6_000, 0)],
+    alphabet: [
+        (TICK, 400),
+        (TICK, 330),
+        (TICK_OVER, 0),
+        (START, 0),
+        (PAUSE, 0),
+        (CUT, 0),
+        (RETURN, 350),
+        (RETURN, 349),
+        (RETURN_OVER, 0),
+        (FEED, 0),
+    ],
+};
+
+/// Times moved by plus and minus, and an outage that pauses.
+const TIMES: Small = Small {
+    start: 1,
+    outage: 1,
+    runs: 1,
+    steps: [(600, 2, 2), (0, 0, 2)],
+    alphabet: [
+        (TICK, 200),
+        (TICK, 590),
+        (START, 0),
+        (FEED, 0),
+        (PLUS, 0),
+        (MINUS, 0),
+        (BACK, 0),
+        (PAUSE, 0),
+        (CUT, 0),
+        (RETURN, 200),
+    ],
+};
+
+impl Small {
+    fn bank(&self) -> Vec<u8> {
+        let settings = Settings {
+            n: 1,
+            start: self.start,
+            outage: self.outage,
+            sll: 0,
+            slh: 1_000,
+            start_value: 200,
+            width: 50,
+            filter: 10,
+            zones: [0, 20, 0, 0],
+            waits: [1, 2, 0, 0],
+            on: [0, 1, 0, 0],
+            off: [1, 2, 0, 0],
+        };
+        banks::fixed(settings, &[(self.runs, 2)], &self.steps, [1, 2, 5, 0]).bank()
+    }
+}
+
+/// Every list up to `depth` events of three alphabets over small banks.
+pub fn every_list(comparer: &mut Comparer, depth: usize) -> Compared {
+    [PASSES, OUTAGES, TIMES]
+        .iter()
+        .try_for_each(|small| walk(comparer, &small.bank(), &small.alphabet, depth))
+}
+
+/// Every short list of a random alphabet over a random bank.
+pub fn random_tree(comparer: &mut Comparer, random: &mut Random, depth: usize) -> Compared {
+    let draft = banks::lively(random);
+    let target = draft.steps[0].target;
+    let mut alphabet = vec![
+        (START, 0),
+        (CUT, 0),
+        events::reading(random, RETURN, target),
+        events::reading(random, TICK, target),
+    ];
+    alphabet.extend((0..4).map(|_| match random.below(3) {
+        0 => events::reading(random, TICK, target),
+        _ => events::any_of_form(random),
+    }));
+    walk(comparer, &draft.bank(), &alphabet, depth)
+}

@@ -1,0 +1,212 @@
+//! Demand 3: the controller's run over a list, against the replay machine run
+//! over what is left of the list.
+
+mod common;
+
+use common::*;
+use model::{
+    credits_due, record_of, replay, saves, what_is_left, Answer, Event, Left, Reading, Refusal,
+    State,
+};
+
+/// The whole claim for one list.
+fn claim_holds(bank: &[u8], events: &[Event]) {
+    let mut controller = Controller::new(bank.to_vec());
+    for &event in events {
+        controller.send(event);
+    }
+    let (left, power) = what_is_left(bank, events);
+    assert_eq!(controller.state.power, power);
+    if power {
+        let (state, answer) = replay(bank, &left);
+        assert_eq!(controller.state, state);
+        assert_eq!(controller.answer, answer);
+        credits_are_due(bank, &left, &controller.state);
+    } else {
+        power_off_holds(&controller, events);
+    }
+    record_is_of_last_save(bank, &left, &controller);
+}
+
+/// "held at 4,294,967,295"
+fn credits_are_due(bank: &[u8], left: &[Left], state: &State) {
+    let due = credits_due(bank, left);
+    assert_eq!(
+        due.map(|count| count.min(u32::MAX.into()) as u32),
+        state.credits
+    );
+}
+
+/// With power off the state is all zeros; a cut was accepted, "all else is
+/// then refused".
+fn power_off_holds(controller: &Controller, events: &[Event]) {
+    assert_eq!(controller.place(), (0, 0, 0, 0, 0, 0));
+    assert_eq!(controller.state.credits, [0; 99]);
+    match (events.last(), controller.answer) {
+        (
+            Some(Event::Cut),
+            Answer::Accepted {
+                set_value: 0,
+                signals: [false, false, false, false],
+            },
+        ) => {}
+        (Some(Event::Return(_)), answer) => assert_eq!(answer, refused(25)),
+        (_, answer) => assert_eq!(answer, refused(23)),
+    }
+}
+
+/// "the record is then that of the last save"
+fn record_is_of_last_save(bank: &[u8], left: &[Left], controller: &Controller) {
+    let saved = saves(bank, left)
+        .iter()
+        .rposition(|&saves| saves)
+        .map_or(0, |last| last + 1);
+    let (state, _) = replay(bank, &left[..saved]);
+    assert_eq!(controller.record, record_of(&state));
+    assert!(model::readable(bank, &controller.record));
+}
+
+#[test]
+fn random_lists() {
+    let mut random = Random::new(6);
+    for _ in 0..1_500 {
+        let bank = random.bank();
+        let length = random.between(0, 400) as usize;
+        let events: Vec<Event> = (0..length).map(|_| random.event()).collect();
+        claim_holds(&bank, &events);
+    }
+}
+
+/// Short lists, every front part of which is a list too.
+#[test]
+fn every_front_part_of_random_lists() {
+    let mut random = Random::new(7);
+    for _ in 0..200 {
+        let bank = random.bank();
+        let events: Vec<Event> = (0..60).map(|_| random.event()).collect();
+        for length in 0..=events.len() {
+            claim_holds(&bank, &events[..length]);
+        }
+    }
+}
+
+/// Lists of plain runs: a start first, then ticks with few cuts, so that
+/// passes end and many ticks lie between saves.
+#[test]
+fn long_runs_with_cuts() {
+    let mut random = Random::new(8);
+    let mut ended = 0;
+    for _ in 0..300 {
+        let bank = random.bank();
+        let mut events = vec![tick(20), START];
+        while events.len() < 2_000 {
+            match random.between(0, 199) {
+                0 => events.extend([Event::Cut, tick(1), back_with(300)]),
+                1 => events.push(Event::Command(random.command())),
+                _ => events.push(Event::Tick(random.reading())),
+            }
+        }
+        claim_holds(&bank, &events);
+        let (left, _) = what_is_left(&bank, &events);
+        ended += usize::from(replay(&bank, &left).0.mode == 3);
+    }
+    assert!(ended > 10, "{ended}");
+}
+
+#[test]
+fn the_events_since_the_last_save_are_struck_out() {
+    let bank = example_bank();
+    let events = [
+        tick(5),
+        Event::Cut,
+        START,
+        back_with(99_999),
+        Event::Cut,
+        back_with(200),
+        START,
+        tick(200),
+        tick(99_999),
+        back_with(3),
+        Event::Cut,
+        back_with(300),
+        tick(200),
+    ];
+    let (left, power) = what_is_left(&bank, &events);
+    let was_on = |event| Left {
+        event,
+        power_was_on: true,
+    };
+    let was_off = |event| Left {
+        event,
+        power_was_on: false,
+    };
+    let expected = [
+        was_off(back_with(200)),
+        was_on(START),
+        was_off(back_with(300)),
+        was_on(tick(200)),
+    ];
+    assert_eq!((&left[..], power), (&expected[..], true));
+    assert_eq!(saves(&bank, &left), [true, true, true, false]);
+    assert_eq!(credits_due(&bank, &left)[..2], [1, 0]);
+}
+
+#[test]
+fn nothing_left_gives_the_state_and_answer_of_making() {
+    let controller = Controller::new(example_bank());
+    assert_eq!(
+        replay(&controller.bank, &[]),
+        (controller.state, controller.answer)
+    );
+    assert_eq!(what_is_left(&controller.bank, &[]), (vec![], true));
+    assert_eq!(
+        what_is_left(&controller.bank, &[Event::Cut]),
+        (vec![], false)
+    );
+}
+
+#[test]
+fn a_refused_bank_leaves_nothing() {
+    let events = [START, tick(1)];
+    assert_eq!(what_is_left(&[], &events), (vec![], false));
+    let left = [Left {
+        event: START,
+        power_was_on: true,
+    }];
+    let (state, answer) = replay(&[], &left);
+    assert!(!state.power);
+    assert_eq!(
+        answer,
+        Answer::Refused(Refusal {
+            number: 11,
+            first: 0,
+            second: 0
+        })
+    );
+    assert_eq!(saves(&[], &left), [false]);
+    assert_eq!(credits_due(&[], &left), [0; 99]);
+}
+
+/// Lists that are not what is left of anything: no call panics.
+#[test]
+fn the_replay_machine_takes_any_list() {
+    let mut random = Random::new(9);
+    for _ in 0..500 {
+        let bank = random.bank();
+        let left: Vec<Left> = (0..200)
+            .map(|_| Left {
+                event: random.event(),
+                power_was_on: random.one_in(2),
+            })
+            .collect();
+        let (state, _) = replay(&bank, &left);
+        assert!(model::sound(&bank, &state));
+        credits_are_due(&bank, &left, &state);
+        assert_eq!(saves(&bank, &left).len(), left.len());
+    }
+    let over = Left {
+        event: Event::Return(Reading::Over),
+        power_was_on: false,
+    };
+    assert_eq!(saves(&example_bank(), &[over]), [true]);
+}
