@@ -17,7 +17,8 @@
  *
  * Refusals come in this order: 99, then the bank's own (11-14), then 21, then
  * 22, then the rest, lower numbers first. A refusal leaves every buffer as it
- * was.
+ * was, but for cook_run: where its last event is refused, what the events
+ * before that one left is written.
  */
 #ifndef COOK_H
 #define COOK_H
@@ -112,7 +113,9 @@ uint64_t cook_make(const uint8_t *bank, size_t bank_len,
  * written whole if the event saves. value is ignored by kinds that have none.
  * The bank is checked anew. After a cut state is all zeros; record is what a
  * return starts from. 99 for a kind above COOK_RETURN_UNDER; 21 for bytes that
- * are no state and for a state that is not sound.
+ * are no state (another length, a power above 1, a kind of measured value above
+ * 3, a NaN, a value with no kind 3, all with power off too) and for a state
+ * that is not sound.
  */
 uint64_t cook_event(const uint8_t *bank, size_t bank_len,
                     uint8_t *record, size_t record_len,

@@ -8,7 +8,8 @@ use crate::events::{
     Raw, BACK, CUT, FEED, MINUS, PAUSE, PLUS, RESET, RETURN, RETURN_OVER, RETURN_UNDER, SELECT,
     START, TICK, TICK_OVER,
 };
-use crate::lists::Held;
+use crate::held::Held;
+use crate::lists;
 use crate::report::{Compared, Difference};
 
 /// Events of the cook that follow a return.
@@ -126,8 +127,8 @@ impl Cook {
             held = held.after(comparer, &self.bank, event)?;
             list.push(event);
             if compare {
-                held.same_by_replay(comparer, &self.bank, &list)?;
-                held.same_by_run(comparer, &self.bank, &list)?;
+                lists::same_by_replay(comparer, &held, &self.bank, &list)?;
+                lists::same_by_run(comparer, &held, &self.bank, &list)?;
             }
             Ok(())
         };

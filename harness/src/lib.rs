@@ -3,14 +3,16 @@
 pub mod banks;
 pub mod calls;
 pub mod cook_cuts;
+pub mod damage;
 pub mod events;
+pub mod held;
 pub mod hostile;
 pub mod lists;
 pub mod oracle;
+pub mod programs;
 pub mod random;
 pub mod replay;
 pub mod report;
-pub mod sheet;
 pub mod states;
 pub mod tally;
 pub mod timing;

@@ -3,110 +3,41 @@
 use crate::banks::{self, Draft};
 use crate::calls::{Call, Comparer, Given};
 use crate::events::{self, list_bytes, Raw};
+use crate::held::Held;
 use crate::oracle::{RECORD, STATE};
 use crate::random::Random;
 use crate::replay;
 use crate::report::{Compared, Difference};
 
-/// What an event leaves: its answer, the state and the record.
-#[derive(Clone)]
-pub struct Held {
-    pub word: u64,
-    pub state: [u8; STATE],
-    pub record: [u8; RECORD],
+/// The whole list in one call leaves the same.
+pub fn same_by_run(comparer: &mut Comparer, held: &Held, bank: &[u8], list: &[Raw]) -> Compared {
+    let events = list_bytes(list);
+    let given = Given {
+        bank,
+        record: &[0x33; RECORD],
+        state: &[0xcc; STATE],
+    };
+    let word = comparer.library_alone(Call::Run { events: &events }, given)?;
+    if word == held.word && comparer.state() == held.state && comparer.record() == held.record {
+        return Ok(());
+    }
+    Err(Difference::new("cook_run, against its events one by one")
+        .bytes("bank", bank)
+        .bytes("events", &events)
+        .word("result, cook_run", word)
+        .word("result, one by one", held.word)
+        .sides(
+            "state (library: cook_run, model: one by one)",
+            comparer.state(),
+            &held.state,
+        )
+        .sides("record (likewise)", comparer.record(), &held.record))
 }
 
-fn array<const N: usize>(bytes: &[u8]) -> [u8; N] {
-    bytes.try_into().expect("a buffer keeps its length")
-}
-
-impl Held {
-    fn after_call(comparer: &Comparer, word: u64) -> Held {
-        Held {
-            word,
-            state: array(comparer.state()),
-            record: array(comparer.record()),
-        }
-    }
-
-    /// What making leaves.
-    pub fn made(comparer: &mut Comparer, bank: &[u8]) -> Result<Held, Difference> {
-        let given = Given {
-            bank,
-            record: &[0xee; RECORD],
-            state: &[0xdd; STATE],
-        };
-        let word = comparer.call(Call::Make, given)?;
-        assert_eq!(word, 0, "a list runs over an accepted bank");
-        Ok(Held::after_call(comparer, word))
-    }
-
-    /// What an event leaves, compared with the model.
-    pub fn after(
-        &self,
-        comparer: &mut Comparer,
-        bank: &[u8],
-        (kind, value): Raw,
-    ) -> Result<Held, Difference> {
-        let given = Given {
-            bank,
-            record: &self.record,
-            state: &self.state,
-        };
-        let word = comparer.call(Call::Event { kind, value }, given)?;
-        let next = Held::after_call(comparer, word);
-        self.count(comparer, kind, &next);
-        Ok(next)
-    }
-
-    fn count(&self, comparer: &mut Comparer, kind: u32, next: &Held) {
-        let tally = &mut comparer.tally;
-        let accepted = next.word & 0xff == 0;
-        tally.cuts += (kind == events::CUT && accepted) as u64;
-        tally.returns += (kind >= events::RETURN && accepted) as u64;
-        tally.saves += (self.record != next.record) as u64;
-        if kind > events::TICK_UNDER {
-            return;
-        }
-        tally.steps += (self.state[3] != next.state[3]) as u64;
-        tally.passes += (self.state[4..6] != next.state[4..6]) as u64;
-        tally.ends += (self.state[1] != 3 && next.state[1] == 3) as u64;
-    }
-
-    pub fn credits(&self) -> [u32; 99] {
-        std::array::from_fn(|i| u32::from_le_bytes(array(&self.state[16 + 4 * i..20 + 4 * i])))
-    }
-
-    /// The whole list in one call leaves the same.
-    pub fn same_by_run(&self, comparer: &mut Comparer, bank: &[u8], list: &[Raw]) -> Compared {
-        let events = list_bytes(list);
-        let given = Given {
-            bank,
-            record: &[0x33; RECORD],
-            state: &[0xcc; STATE],
-        };
-        let word = comparer.library_alone(Call::Run { events: &events }, given)?;
-        if word == self.word && comparer.state() == self.state && comparer.record() == self.record {
-            return Ok(());
-        }
-        Err(Difference::new("cook_run, against its events one by one")
-            .bytes("bank", bank)
-            .bytes("events", &events)
-            .word("result, cook_run", word)
-            .word("result, one by one", self.word)
-            .sides(
-                "state (library: cook_run, model: one by one)",
-                comparer.state(),
-                &self.state,
-            )
-            .sides("record (likewise)", comparer.record(), &self.record))
-    }
-
-    /// The replay machine leaves the same.
-    pub fn same_by_replay(&self, comparer: &mut Comparer, bank: &[u8], list: &[Raw]) -> Compared {
-        comparer.tally.replays += 1;
-        replay::compare(bank, list, self)
-    }
+/// The replay machine leaves the same.
+pub fn same_by_replay(comparer: &mut Comparer, held: &Held, bank: &[u8], list: &[Raw]) -> Compared {
+    comparer.tally.replays += 1;
+    replay::compare(bank, list, held)
 }
 
 /// A list as it grows.
@@ -134,8 +65,8 @@ impl Growing {
     }
 
     fn compare(&self, comparer: &mut Comparer) -> Compared {
-        self.held.same_by_run(comparer, &self.bank, &self.list)?;
-        self.held.same_by_replay(comparer, &self.bank, &self.list)
+        same_by_run(comparer, &self.held, &self.bank, &self.list)?;
+        same_by_replay(comparer, &self.held, &self.bank, &self.list)
     }
 }
 

@@ -3,7 +3,7 @@
 use model::Left;
 
 use crate::events::{list_bytes, Raw, CUT, RETURN};
-use crate::lists::Held;
+use crate::held::Held;
 use crate::oracle::{self, RECORD, STATE};
 use crate::report::{Compared, Difference};
 

@@ -4,8 +4,8 @@ use model::{Measured, Settings, State};
 
 use crate::banks::{self, Draft, ENDLESS};
 use crate::calls::{Call, Comparer, Given};
+use crate::damage;
 use crate::events;
-use crate::hostile;
 use crate::oracle::{self, RECORD, STATE};
 use crate::random::Random;
 use crate::report::{Compared, Difference};
@@ -321,7 +321,7 @@ pub fn compare(comparer: &mut Comparer, random: &mut Random, count: usize) -> Co
     for _ in 0..count {
         let draft = banks::lively(random);
         let bank = if random.once_in(20) {
-            hostile::bank(random)
+            damage::bank(random)
         } else {
             draft.bank()
         };

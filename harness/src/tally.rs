@@ -21,41 +21,75 @@ pub struct Tally {
     pub passes: u64,
     pub ends: u64,
     pub cook_cuts: u64,
-    pub sheets: u64,
-    pub sheet_lines: u64,
+    pub inputs: u64,
+    pub printed: u64,
     /// Results by number.
     pub answers: BTreeMap<u64, u64>,
 }
 
+/// What each count is of, in the order of `counts`.
+const NAMES: [&str; 18] = [
+    "cook_check calls",
+    "cook_write calls",
+    "cook_make calls",
+    "cook_event calls",
+    "cook_run calls",
+    "random lists",
+    "events in random lists",
+    "lists of the tree walk",
+    "lists against the replay machine",
+    "cuts in lists",
+    "returns in lists",
+    "saves in lists",
+    "step changes in lists",
+    "pass changes in lists",
+    "ends in lists",
+    "cuts in the fixed cook",
+    "inputs of a program",
+    "lines that it printed",
+];
+
 impl Tally {
-    fn rows(&self) -> [(&'static str, u64); 18] {
+    /// Adds what another has counted.
+    pub fn add(&mut self, mut other: Tally) {
+        for (count, more) in self.counts().into_iter().zip(other.counts()) {
+            *count += *more;
+        }
+        for (number, more) in other.answers {
+            *self.answers.entry(number).or_default() += more;
+        }
+    }
+
+    fn counts(&mut self) -> [&mut u64; 18] {
         [
-            ("cook_check calls", self.checks),
-            ("cook_write calls", self.writes),
-            ("cook_make calls", self.makes),
-            ("cook_event calls", self.events),
-            ("cook_run calls", self.runs),
-            ("random lists", self.lists),
-            ("events in random lists", self.list_events),
-            ("lists of the tree walk", self.walked),
-            ("lists against the replay machine", self.replays),
-            ("cuts in lists", self.cuts),
-            ("returns in lists", self.returns),
-            ("saves in lists", self.saves),
-            ("step changes in lists", self.steps),
-            ("pass changes in lists", self.passes),
-            ("ends in lists", self.ends),
-            ("cuts in the fixed cook", self.cook_cuts),
-            ("sheet inputs", self.sheets),
-            ("sheet lines", self.sheet_lines),
+            &mut self.checks,
+            &mut self.writes,
+            &mut self.makes,
+            &mut self.events,
+            &mut self.runs,
+            &mut self.lists,
+            &mut self.list_events,
+            &mut self.walked,
+            &mut self.replays,
+            &mut self.cuts,
+            &mut self.returns,
+            &mut self.saves,
+            &mut self.steps,
+            &mut self.passes,
+            &mut self.ends,
+            &mut self.cook_cuts,
+            &mut self.inputs,
+            &mut self.printed,
         ]
     }
 }
 
 impl fmt::Display for Tally {
     fn fmt(&self, out: &mut fmt::Formatter<'_>) -> fmt::Result {
-        for (name, count) in self.rows().into_iter().filter(|&(_, count)| count > 0) {
-            writeln!(out, "{name:<34}{count:>12}")?;
+        for (name, count) in NAMES.iter().zip(self.clone().counts()) {
+            if *count > 0 {
+                writeln!(out, "{name:<34}{count:>12}")?;
+            }
         }
         if self.answers.is_empty() {
             return Ok(());

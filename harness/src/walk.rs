@@ -8,7 +8,8 @@ use crate::events::{
     self, Raw, BACK, CUT, FEED, MINUS, PAUSE, PLUS, RESET, RETURN, RETURN_OVER, RETURN_UNDER,
     SELECT, START, TICK, TICK_OVER,
 };
-use crate::lists::Held;
+use crate::held::Held;
+use crate::lists;
 use crate::random::Random;
 use crate::report::Compared;
 
@@ -25,8 +26,8 @@ impl Tree<'_> {
         for &event in self.alphabet {
             let next = held.after(comparer, self.bank, event)?;
             self.list.push(event);
-            next.same_by_run(comparer, self.bank, &self.list)?;
-            next.same_by_replay(comparer, self.bank, &self.list)?;
+            lists::same_by_run(comparer, &next, self.bank, &self.list)?;
+            lists::same_by_replay(comparer, &next, self.bank, &self.list)?;
             comparer.tally.walked += 1;
             if depth > 1 {
                 self.walk(comparer, &next, depth - 1)?;
@@ -39,8 +40,8 @@ impl Tree<'_> {
 
 fn walk(comparer: &mut Comparer, bank: &[u8], alphabet: &[Raw], depth: usize) -> Compared {
     let made = Held::made(comparer, bank)?;
-    made.same_by_run(comparer, bank, &[])?;
-    made.same_by_replay(comparer, bank, &[])?;
+    lists::same_by_run(comparer, &made, bank, &[])?;
+    lists::same_by_replay(comparer, &made, bank, &[])?;
     Tree {
         bank,
         alphabet,

@@ -2,7 +2,7 @@
 
 use crate::banks::{self, Draft};
 use crate::calls::{Call, Comparer, Given};
-use crate::hostile;
+use crate::damage;
 use crate::random::Random;
 use crate::report::{Compared, Difference};
 
@@ -51,7 +51,7 @@ impl Inputs {
         let part = self.part(random.below(3));
         let reach = random.pick(&[part.len(), part.len().min(24)]);
         let at = random.below(reach);
-        hostile::change(random, part, at);
+        damage::change(random, part, at);
     }
 
     /// Gives one input another length.
@@ -153,7 +153,7 @@ pub fn every_field(comparer: &mut Comparer, random: &mut Random) -> Compared {
         let mut inputs = Inputs::of(&banks::lively_of(random, n));
         for number in 0..3 {
             let bytes = inputs.part(number).clone();
-            hostile::each_change(&bytes, |damaged| {
+            damage::each_change(&bytes, |damaged| {
                 damaged.clone_into(inputs.part(number));
                 inputs.compare(comparer, &out).map(|_| ())
             })?;

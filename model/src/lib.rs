@@ -18,5 +18,5 @@ pub use bank::{check, read_back, write, Contents};
 pub use controller::{event, make};
 pub use record::{readable, record_of, sound};
 pub use replay::{credits_due, replay, saves, what_is_left, Left};
-pub use sheet::sheet;
+pub use sheet::{credits, sheet};
 pub use types::{Answer, Command, Event, Measured, Reading, Refusal, Settings, State, Step};

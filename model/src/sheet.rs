@@ -1,4 +1,4 @@
-//! Program `sheet`: a bank, and lines that each bring one event.
+//! Programs `sheet` and `credits`: a bank, and lines that each bring one event.
 
 use std::io::Write;
 
@@ -9,17 +9,39 @@ use crate::types::{Answer, Command, Event, Reading, Refusal, State};
 /// "a line of any other form prints 99 and the seven unchanged"
 const OTHER_FORM: u8 = 99;
 
-/// What the program prints for a bank and its input.
+/// What the program `sheet` prints for a bank and its input.
 pub fn sheet(bank: &[u8], input: &[u8]) -> Vec<u8> {
     let mut out = Vec::new();
+    let ran = run_lines(bank, input, |number, state, set_value| {
+        print_line(&mut out, number, state, set_value);
+    });
+    if let Err(refusal) = ran {
+        print_refusal(&mut out, refusal);
+    }
+    out
+}
+
+/// What the program `credits` prints for a bank and its input: nothing for a
+/// line, and after the last the credits of the state that it left.
+pub fn credits(bank: &[u8], input: &[u8]) -> Vec<u8> {
+    let mut out = Vec::new();
+    match run_lines(bank, input, |_, _, _| {}) {
+        Ok(state) => print_credits(&mut out, &state),
+        Err(refusal) => print_refusal(&mut out, refusal),
+    }
+    out
+}
+
+/// Runs the lines, and gives the state that the last one left, making's if
+/// there is none. After each line `show` gets its number, the state and the set
+/// value. Over a refused bank no line is run.
+fn run_lines(
+    bank: &[u8],
+    input: &[u8],
+    mut show: impl FnMut(u8, &State, i16),
+) -> Result<State, Refusal> {
     let mut record = [0; RECORD_BYTES];
-    let (mut state, made) = match make(bank, &mut record) {
-        Ok(made) => made,
-        Err(refusal) => {
-            print_refusal(&mut out, refusal);
-            return out;
-        }
-    };
+    let (mut state, made) = make(bank, &mut record)?;
     let mut set_value = 0;
     take_set_value(made, &mut set_value);
     for line in lines(input) {
@@ -29,9 +51,9 @@ pub fn sheet(bank: &[u8], input: &[u8]) -> Vec<u8> {
             }
             None => OTHER_FORM,
         };
-        print_line(&mut out, number, &state, set_value);
+        show(number, &state, set_value);
     }
-    out
+    Ok(state)
 }
 
 /// The number that an answer prints; a refusal leaves the set value.
@@ -111,6 +133,15 @@ fn print_line(out: &mut Vec<u8>, number: u8, state: &State, set_value: i16) {
     } = state;
     // Writing to a vector does not fail.
     let _ = writeln!(out, "{number} {mode} {p} {k} {r} {e} {w} {set_value}");
+}
+
+/// A line for each step whose credit is not 0: its number, and the seconds.
+fn print_credits(out: &mut Vec<u8>, state: &State) {
+    for (k, credit) in (1..).zip(state.credits) {
+        if credit != 0 {
+            let _ = writeln!(out, "{k} {credit}");
+        }
+    }
 }
 
 /// "A refused bank prints its refusal's numbers and nothing more."

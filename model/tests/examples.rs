@@ -97,8 +97,6 @@ fn printed(input: &[u8]) -> String {
     String::from_utf8(sheet(&example_bank(), input)).unwrap()
 }
 
-const OTHER_FORMS: &str = "| S|S |s|SS|N|N |N1|N  1|N H|T -|T +1|T 123456|T h|T H |R|C 1|S\r";
-
 #[test]
 fn sheet_prints_99_for_a_line_of_any_other_form() {
     for other in OTHER_FORMS.split('|') {
@@ -132,13 +130,10 @@ fn sheet_reads_the_listed_forms() {
 
 #[test]
 fn sheet_prints_the_numbers_of_a_refused_bank() {
-    let bank = example_bank();
     let changed = |offset: usize, value: u8| {
-        let mut bank = bank.clone();
-        bank[offset] = value;
-        String::from_utf8(sheet(&bank, b"S\n")).unwrap()
+        String::from_utf8(sheet(&example_with(offset, value), b"S\n")).unwrap()
     };
-    assert_eq!(sheet(&bank[..44], b"S\n"), b"11\n");
+    assert_eq!(sheet(&example_bank()[..44], b"S\n"), b"11\n");
     assert_eq!(changed(2, 3), "12 2\n");
     assert_eq!(changed(45, 50), "13 1\n");
     assert_eq!(changed(49, 100), "14 1 0\n");

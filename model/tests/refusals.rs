@@ -9,9 +9,7 @@ use model::{
 
 /// The refusal of the example bank with one byte changed.
 fn changed(offset: usize, value: u8) -> Result<(), Refusal> {
-    let mut bank = example_bank();
-    bank[offset] = value;
-    check(&bank)
+    check(&example_with(offset, value))
 }
 
 /// Sends an event that must be refused, and checks that it leaves all.

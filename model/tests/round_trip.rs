@@ -156,6 +156,7 @@ fn every_call_takes_any_bytes() {
         assert_eq!(read_back(&bytes).is_some(), check(&bytes).is_ok());
         let _ = readable(&bytes, &bytes);
         let _ = model::sheet(&bytes, &bytes);
+        let _ = model::credits(&bytes, &bytes);
         let text: Vec<u8> = (0..length)
             .map(|_| random.pick(b"SPXFB+-NTRCHL 019\n\n\n\n"))
             .collect();

@@ -6,39 +6,60 @@ use mathlib.Core.List.{List, [], _∷_}
 use Prim.Native.Nat.{ℕ, zero, suc, _+_, _*_, _-_, _/_, _≤_, _<_}
 use native.Mathlib.Nat.{div-mul-le-self, mul-le-mul-right, mul-comm, le-trans}
 use native.Mathlib.Omega.{arith}
-use lib.Dec.{leb, eqb}
+use lib.Dec.{leb}
 use lib.IntN.{ℤ}
 use lib.ListN.{length, getD, List·getD-eq-default}
 use borrow.Author.Tests.{leb-true, leb-false, eqb-true, le-leb}
-use Rattle.field.specs.Field.{field}
-use Rattle.bank.specs.Range.{both, between}
+use mir.Syntax.{w16}
+use mir.Val.{toZ}
+use Rattle.field.specs.Field.{field, signedField}
+use Rattle.field.proofs.Laws.{field-past}
+use Rattle.setting.specs.Range.{between}
 use Rattle.bank.specs.Capacity.{capacityOf}
-use Rattle.bank.specs.View.{Pattern, settingsAt, offsetOf, lengthOf, stepsIn, patternAt, patternsOf, patternOf, stepOf, stepAt, numbered, tab, noStep, noPattern}
-use Rattle.bank.specs.Check.{test, then, settingsFound, pairRight, pairsFrom, pairsFound, stepRight, stepsFound, bodiesFound, ofLength, foundIn}
+use Rattle.bank.specs.View.{Pattern, offsetOf, lengthOf, stepsIn, patternAt, patternsOf, patternOf, stepOf, stepAt, numbered, noStep, noPattern}
+use Rattle.setting.specs.Setting.{settingsAt}
+use Rattle.field.specs.Tab.{tab}
+use Rattle.setting.specs.Found.{test}
+use Rattle.setting.specs.Setting.{settingsFound, settingsIn}
+use Rattle.bank.specs.Check.{pairRight, pairsFrom, pairsFound, stepRight, stepsFound, bodiesFound, ofLength, foundIn}
 use Rattle.bank.specs.declared.Step.{Step}
-use Rattle.bank.specs.declared.Checked.{Checked}
-use Rattle.bank.specs.declared.Checked.the-variants.{Accepted, Short, Setting, Pair, Body}
-use Rattle.bank.proofs.Laws.{on, off, both-left, both-right, settings-count}
-use Rattle.bank.proofs.Walk.{length-tab, getD-tab}
+use Rattle.setting.specs.declared.Checked.{Checked}
+use Rattle.setting.specs.declared.Checked.the-variants.{Accepted, Short, Setting, Pair, Body}
+use Rattle.setting.proofs.Laws.{not-accepted, on, both-left, both-right, settings-count}
+pub use Rattle.setting.proofs.Laws.{then-holds}
+use Rattle.field.proofs.Tab.{length-tab, getD-tab}
 
 -- ---- a refusal is not Accepted
 
 pub not-short : Short ≡ Accepted → ⊥
-not-short e = let z : _≡_ {A = ℕ} 0 1 = cc in omega arith
+not-short = not-accepted Short refl
 
 pub not-setting : (o : ℕ) → Setting o ≡ Accepted → ⊥
-not-setting o e = let z : _≡_ {A = ℕ} 0 1 = cc in omega arith
+not-setting o = not-accepted (Setting o) refl
 
 pub not-pair : (i : ℕ) → Pair i ≡ Accepted → ⊥
-not-pair i e = let z : _≡_ {A = ℕ} 0 1 = cc in omega arith
+not-pair i = not-accepted (Pair i) refl
 
 pub not-body : (p k : ℕ) → Body p k ≡ Accepted → ⊥
-not-body p k e = let z : _≡_ {A = ℕ} 0 1 = cc in omega arith
+not-body p k = not-accepted (Body p k) refl
 
 -- ---- a pattern and a step of the view, by their numbers
 
+-- past the end there is no step
+pub step-beyond : (b : List ℕ) (at : ℕ) → length b ≤ at → stepAt b at ≡ noStep
+unfolding stepAt noStep signedField tab
+step-beyond b at h =
+    λ k. record {
+      target = toZ w16 (field-past 2 b at h k);
+      minutes = field-past 2 b (at + 2) (omega arith) k;
+      wait = field-past 1 b (at + 4) (omega arith) k;
+      signals =
+          field-past 1 b (at + 5) (omega arith) k ∷ field-past 1 b (at + 5 + 1) (omega arith) k
+          ∷ field-past 1 b (at + 5 + 1 + 1) (omega arith) k ∷ field-past 1 b (at + 5 + 1 + 1 + 1) (omega arith) k ∷ [];
+    }
+
 -- an entry of a view, counted from 1
-numbered-tab : {A : Type 0} (none : A) (f : ℕ → A) (w at m p : ℕ) → 1 ≤ p → p ≤ m → numbered none (tab f w at m) p ≡ f (at + w * (p - 1))
+pub numbered-tab : {A : Type 0} (none : A) (f : ℕ → A) (w at m p : ℕ) → 1 ≤ p → p ≤ m → numbered none (tab f w at m) p ≡ f (at + w * (p - 1))
 unfolding numbered
 numbered-tab none f w at m zero p1 pm = absurd (omega arith)
 numbered-tab none f w at m (suc i) p1 pm =
@@ -82,11 +103,6 @@ module _ (b : List ℕ) (p : ℕ) where
     unfolding patternAt
     steps-there = ap (λ (x : Pattern). x .steps) (pattern-there there)
 
-    pub step-there : (k : ℕ) → 1 ≤ k → k ≤ stepsIn (lengthOf b p) → stepOf b p k ≡ stepAt b (offsetOf b p + 2 + 9 * (k - 1))
-    unfolding stepOf
-    step-there k k1 ks =
-        ap (λ (xs : List Step). numbered noStep xs k) steps-there ∙ numbered-tab noStep (stepAt b) 9 (offsetOf b p + 2) (stepsIn (lengthOf b p)) k k1 ks
-
     pub step-past : (k : ℕ) → stepsIn (lengthOf b p) < k → stepOf b p k ≡ noStep
     unfolding stepOf
     step-past k h =
@@ -108,14 +124,6 @@ pub test-holds : (a : Bool) (w n : Checked) → (w ≡ Accepted → ⊥) → tes
 unfolding test
 test-holds true w n h e = (refl, e)
 test-holds false w n h e = absurd (h e)
-
-pub then-holds : (r n : Checked) → then r n ≡ Accepted → (r ≡ Accepted) × (n ≡ Accepted)
-unfolding then
-then-holds Accepted n e = (refl, e)
-then-holds Short n e = absurd (not-short e)
-then-holds (Setting o) n e = absurd (not-setting o e)
-then-holds (Pair i) n e = absurd (not-pair i e)
-then-holds (Body p k) n e = absurd (not-body p k e)
 
 -- each step of steps that are right is right
 steps-right : (low high : ℤ) (p : ℕ) (ss : List Step) (k j : ℕ) (d : Step) → stepsFound low high p k ss ≡ Accepted → j < length ss → stepRight low high (getD ss j d) ≡ true
@@ -148,16 +156,20 @@ bodies-right right low high (x ∷ xs) p (suc j) d e h =
     let q : p + 1 + j ≡ p + suc j = omega arith in
     subst (λ (i : ℕ). Right right low high i (getD xs j d)) q (bodies-right right low high xs (p + 1) j d (body-right right low high p x xs e .1) (omega arith))
 
--- each pair is right: its length is that of its steps, which are at most as many as the capacity
+-- each pair is right: its length is that of its steps, at most as many as the capacity, and its body lies in the bank
 pub record Fitting (b : List ℕ) (n p : ℕ) : Type 0 where
   pub size : lengthOf b p ≡ 2 + 9 * stepsIn (lengthOf b p)
   pub steps : stepsIn (lengthOf b p) ≤ capacityOf n
+  pub inside : offsetOf b p + lengthOf b p ≤ length b
 
 pub pair-holds : (b : List ℕ) (n i due : ℕ) → pairRight (offsetOf b i) (lengthOf b i) due (capacityOf n) (length b) ≡ true → Fitting b n i
 unfolding pairRight
 pair-holds b n i due e =
     let t = both-right _ _ e in
-    record { size = eqb-true _ _ (both-left _ _ t); steps = leb-true _ _ (both-left _ _ (both-right _ _ t)) }
+    let u = both-right _ _ t in
+    let start = eqb-true (offsetOf b i) due (both-left _ _ e) in
+    let end = leb-true (due + lengthOf b i) (length b) (both-right _ _ u) in
+    record { size = eqb-true _ _ (both-left _ _ t); steps = leb-true _ _ (both-left _ _ u); inside = omega arith }
 
 pairs-right : (b : List ℕ) (n m i due j : ℕ) → pairsFrom b n m i due ≡ Accepted → j < m → Fitting b n (i + j)
 unfolding pairsFrom
@@ -169,6 +181,17 @@ pairs-right b n (suc m) i due (suc j) e h =
     let t = test-holds _ _ _ (not-pair i) e in
     let q : i + 1 + j ≡ i + suc j = omega arith in
     subst (Fitting b n) q (pairs-right b n m (i + 1) (due + lengthOf b i) j (t .1) (omega arith))
+
+module _ (b : List ℕ) (n : ℕ) (right : pairsFound b n ≡ Accepted) where
+  pub pairs-there : 45 + 4 * n ≤ length b
+  unfolding pairsFound
+  pairs-there = leb-true _ _ (test-holds _ _ _ (not-pair 0) right .0)
+
+  pub pairs-fit : (p : ℕ) → 1 ≤ p → p ≤ n → Fitting b n p
+  unfolding pairsFound
+  pairs-fit p p1 pn =
+      let q : 1 + (p - 1) ≡ p = omega arith in
+      subst (Fitting b n) q (pairs-right b n n 1 _ (p - 1) (test-holds _ _ _ (not-pair 0) right .1) (omega arith))
 
 -- ---- as many patterns as there are, with as many steps as fit, have at most 99 steps
 
@@ -191,12 +214,12 @@ module _ (b : List ℕ) (ok : foundIn b ≡ Accepted) where
     pub bodies : bodiesFound ofLength (settingsAt b .low) (settingsAt b .high) 1 (patternsOf b) ≡ Accepted
 
   pub parts : Parts
-  unfolding foundIn settingsAt
+  unfolding foundIn settingsIn settingsAt
   parts =
-      let t = test-holds _ _ _ not-short ok in
-      let u = then-holds _ _ (t .1) in
-      let v = then-holds _ _ (u .1) in
-      record { long = leb-true _ _ (t .0); settings = u .0; pairs = v .0; bodies = v .1 }
+      let t = then-holds _ _ ok in
+      let u = test-holds _ _ _ not-short (t .0) in
+      let v = then-holds _ _ (t .1) in
+      record { long = leb-true _ _ (u .0); settings = u .1; pairs = v .0; bodies = v .1 }
 
   pub count-range : (1 ≤ field 1 b 0) × (field 1 b 0 ≤ 15)
   unfolding settingsAt
@@ -208,11 +231,7 @@ module _ (b : List ℕ) (ok : foundIn b ≡ Accepted) where
 
   -- each pattern's pair, body and steps
   pub pair-fits : (p : ℕ) → 1 ≤ p → p ≤ field 1 b 0 → Fitting b (field 1 b 0) p
-  unfolding pairsFound
-  pair-fits p p1 pn =
-      let walk = test-holds _ _ _ (not-pair 0) (parts .pairs) .1 in
-      let q : 1 + (p - 1) ≡ p = omega arith in
-      subst (Fitting b (field 1 b 0)) q (pairs-right b (field 1 b 0) (field 1 b 0) 1 _ (p - 1) walk (omega arith))
+  pair-fits = pairs-fit b (field 1 b 0) (parts .pairs)
 
   pub pattern-right : (p : ℕ) → 1 ≤ p → p ≤ field 1 b 0 → Right ofLength (settingsAt b .low) (settingsAt b .high) p (patternOf b p)
   unfolding patternOf patternsOf numbered

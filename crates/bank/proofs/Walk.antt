@@ -1,26 +1,30 @@
 -- What is left of each walk at a place, and how one turn takes its first part off. The invariant of a loop says that the whole
 -- walk finds what the rest of it finds.
 -- Assumes nothing.
-use mathlib.Core.Path.{_≡_, refl, sym, ap, _∙_}
+use mathlib.Core.Path.{_≡_, ap, _∙_}
 use mathlib.Core.Bool.{Bool, true}
 use borrow.Author.Tests.{eqb-true}
-use mathlib.Core.List.{List, [], _∷_}
-use Prim.Native.Nat.{ℕ, zero, suc, _+_, _*_, _-_, _≤_, _<_}
-use native.Mathlib.Nat.{sub-zero, add-zero, mul-zero, mul-suc}
-use native.Mathlib.Numerals.{add-one}
+use mathlib.Core.List.{List}
+use Prim.Native.Nat.{ℕ, suc, _+_, _*_, _-_, _/_, _%_, _≤_, _<_}
+use native.Mathlib.Nat.{sub-zero, add-zero}
 use native.Mathlib.Omega.{arith}
 use lib.Dec.{leb, eqb}
-use lib.ListN.{length, getD, drop, drop-of-length-le}
-use lib.Seq.{drop-cons, drop-length}
+use lib.ListN.{length}
 use Rattle.field.specs.Field.{field}
+use Rattle.field.proofs.Laws.{Bytes, field-split, field-below}
+use Rattle.field.proofs.Tab.{length-tab}
+use Rattle.bank.specs.Pair.{Gives}
+use Rattle.bank.specs.declared.pair.Extent.{Extent}
 use lib.IntN.{ℤ}
-use Rattle.bank.specs.Range.{both}
+use Rattle.setting.specs.Range.{both}
 use Rattle.bank.specs.Capacity.{capacityOf}
-use Rattle.bank.specs.View.{Pattern, offsetOf, lengthOf, stepsIn, tab, stepAt, patternAt}
-use Rattle.bank.specs.Check.{test, then, halvesFound, pairRight, pairsFrom, stepRight, stepsFound, bodiesFound, ofLength}
-use Rattle.bank.proofs.Laws.{both-right}
-use Rattle.bank.specs.declared.Checked.{Checked}
-use Rattle.bank.specs.declared.Checked.the-variants.{Accepted, Setting, Pair, Body}
+use Rattle.bank.specs.View.{offsetOf, lengthOf, stepsIn, stepAt, patternAt}
+use Rattle.field.specs.Tab.{tab}
+use Rattle.setting.specs.Found.{test, then}
+use Rattle.bank.specs.Check.{pairRight, pairsFrom, stepRight, stepsFound, bodiesFound, ofLength}
+use Rattle.setting.proofs.Laws.{both-right}
+use Rattle.setting.specs.declared.Checked.{Checked}
+use Rattle.setting.specs.declared.Checked.the-variants.{Accepted, Pair, Body}
 
 -- one less is left
 fewer : (n i : ℕ) → i < n → n - i ≡ suc (n - (i + 1))
@@ -29,37 +33,17 @@ fewer n i h = omega arith
 none : (n i : ℕ) → n ≤ i → n - i ≡ 0
 none n i h = omega arith
 
--- ---- what a view has at a place
-
-pub length-tab : {A : Type 0} (f : ℕ → A) (w at m : ℕ) → length (tab f w at m) ≡ m
-unfolding tab
-length-tab f w at zero = refl
-length-tab f w at (suc m) = ap suc (length-tab f w (at + w) m)
-
-pub getD-tab : {A : Type 0} (f : ℕ → A) (w at m j : ℕ) (d : A) → j < m → getD (tab f w at m) j d ≡ f (at + w * j)
-unfolding tab
-getD-tab f w at zero j d h = absurd (omega arith)
-getD-tab f w at (suc m) zero d h = ap f (sym (ap (λ (x : ℕ). at + x) (mul-zero w) ∙ add-zero at))
-getD-tab f w at (suc m) (suc j) d h =
-    let e : at + w + w * j ≡ at + w * suc j = omega (arith, mul-suc w j) in
-    getD-tab f w (at + w) m j d (omega arith) ∙ ap f e
-
--- ---- the pairs of settings with a largest number
-
-unfoldable pub restHalves : ℕ → ℕ → ℕ → List ℕ → List ℕ → ℕ → Checked
-restHalves top top′ at xs ys j = halvesFound top top′ at (drop j xs) (drop j ys)
-
-pub halves-more : (top top′ at : ℕ) (xs ys : List ℕ) (j : ℕ) → j < length xs → j < length ys
-    → restHalves top top′ at xs ys j
-    ≡ test (leb (getD xs j 0) top) (Setting at) (test (leb (getD ys j 0) top′) (Setting (at + 2)) (restHalves top top′ (at + 4) xs ys (j + 1)))
-unfolding restHalves halvesFound
-halves-more top top′ at xs ys j h k = rw (drop-cons xs j 0 h, drop-cons ys j 0 k, add-one)
-
-pub halves-end : (top top′ at : ℕ) (xs ys : List ℕ) (j : ℕ) → length xs ≤ j → restHalves top top′ at xs ys j ≡ Accepted
-unfolding restHalves halvesFound
-halves-end top top′ at xs ys j h = ap (λ (l : List ℕ). halvesFound top top′ at l (drop j ys)) (drop-of-length-le xs h)
-
 -- ---- the pairs
+
+-- the halves of four bytes are what the pair gives
+pub pair-gives : (b : List ℕ) (p : ℕ) (r : Extent) {x : ℕ} → Bytes b → x ≡ field 4 b (41 + 4 * p) → r .at ≡ x % 65536 → r .len ≡ x / 65536 → Gives b p r
+pair-gives b p r {x} small e at len =
+    let i = 41 + 4 * p in
+    let q : i + 2 ≡ 43 + 4 * p = omega arith in
+    let whole : x ≡ field 2 b i + 65536 * field 2 b (43 + 4 * p) = e ∙ field-split 2 2 b i ∙ ap (λ (n : ℕ). field 2 b i + 65536 * field 2 b n) q in
+    let low = field-below 2 b i small in
+    let high = field-below 2 b (43 + 4 * p) small in
+    record { at = omega arith; len = omega arith; near = omega arith; short = omega arith }
 
 unfoldable pub restPairs : List ℕ → ℕ → ℕ → ℕ → Checked
 restPairs b n i due = pairsFrom b n (n - i) (i + 1) due

@@ -1,74 +1,19 @@
 -- What the check of a bank finds: the first wrong field, in the order of the document.
 -- Assumes nothing.
 use Prim.Native.Nat.{ℕ, zero, suc, _+_, _*_}
-use mathlib.Core.Bool.{Bool, true, false}
+use mathlib.Core.Bool.{Bool}
 use mathlib.Core.List.{List, [], _∷_}
 use lib.Dec.{leb, eqb}
 use lib.ListN.{length, getD}
 use lib.IntN.{ℤ}
-use lib.Signed.{ltZ}
-use Rattle.field.specs.Field.{field}
-use Rattle.bank.specs.Range.{both, between, within, temperature}
+use Rattle.setting.specs.Range.{both, within}
 use Rattle.bank.specs.Capacity.{capacityOf}
-use Rattle.bank.specs.View.{Pattern, settingsAt, offsetOf, lengthOf, stepsIn, patternsOf}
-use Rattle.bank.specs.declared.Settings.{Settings}
+use Rattle.bank.specs.View.{Pattern, offsetOf, lengthOf, stepsIn, patternsOf}
+use Rattle.setting.specs.Found.{test, then}
+use Rattle.setting.specs.Setting.{settingsAt, settingsIn}
 use Rattle.bank.specs.declared.Step.{Step}
-use Rattle.bank.specs.declared.Checked.{Checked}
-use Rattle.bank.specs.declared.Checked.the-variants.{Accepted, Short, Setting, Pair, Body}
-
--- the document's number and values of each case; 0 is accepted
-unfoldable pub numbersOf : Checked → List ℕ
-numbersOf Accepted = 0 ∷ []
-numbersOf Short = 11 ∷ []
-numbersOf (Setting offset) = 12 ∷ offset ∷ []
-numbersOf (Pair pair) = 13 ∷ pair ∷ []
-numbersOf (Body pattern step) = 14 ∷ pattern ∷ step ∷ []
-
--- a test that is right goes on; one that is not ends the check
-unfoldable pub test : Bool → Checked → Checked → Checked
-test true wrong next = next
-test false wrong next = wrong
-
--- what is found first, or else what is found next
-unfoldable pub then : Checked → Checked → Checked
-then Accepted next = next
-then Short next = Short
-then (Setting o) next = Setting o
-then (Pair i) next = Pair i
-then (Body p k) next = Body p k
-
--- ---- 12: the settings, by offset
-
--- the first wrong one of fields, each given by its offset and whether it is right, after what was found before
-unfoldable pub firstOf : Checked → List (ℕ × Bool) → Checked
-firstOf found [] = found
-firstOf found (x ∷ xs) = firstOf (then found (test (x .1) (Setting (x .0)) Accepted)) xs
-
--- n, start, outage choice, SLL, SLH, start value, outage width, filter constant
-unfoldable pub headFound : Settings → Checked
-headFound s =
-    firstOf Accepted
-    ((0, between 1 (s .patterns) 15)
-    ∷ (1, between 0 (s .start) 1)
-    ∷ (2, between 0 (s .outage) 2)
-    ∷ (3, temperature (s .low))
-    ∷ (5, both (temperature (s .high)) (ltZ (s .low) (s .high)))
-    ∷ (7, within (s .low) (s .initial) (s .high))
-    ∷ (9, between 0 (s .width) 29999)
-    ∷ (11, between 0 (s .filter) 999)
-    ∷ [])
-
--- pairs from an offset on, four bytes each, with the largest number of either half
-unfoldable pub halvesFound : ℕ → ℕ → ℕ → List ℕ → List ℕ → Checked
-halvesFound top top′ at [] ys = Accepted
-halvesFound top top′ at (x ∷ xs) [] = Accepted
-halvesFound top top′ at (x ∷ xs) (y ∷ ys) =
-    test (leb x top) (Setting at) (test (leb y top′) (Setting (at + 2)) (halvesFound top top′ (at + 4) xs ys))
-
--- then wait zone and wait minutes from 13 on, on minute and off minute from 29 on
-unfoldable pub settingsFound : Settings → Checked
-settingsFound s =
-    then (headFound s) (then (halvesFound 9999 5999 13 (s .zones) (s .waits)) (halvesFound 5999 5999 29 (s .on) (s .off)))
+use Rattle.setting.specs.declared.Checked.{Checked}
+use Rattle.setting.specs.declared.Checked.the-variants.{Accepted, Pair, Body}
 
 -- ---- 13: the pairs
 
@@ -121,7 +66,6 @@ ofLength x = eqb (x .count) (length (x .steps))
 
 unfoldable pub foundIn : List ℕ → Checked
 foundIn b =
-    test (leb 45 (length b)) Short
-    (then (settingsFound (settingsAt b))
+    then (settingsIn b)
     (then (pairsFound b (settingsAt b .patterns))
-    (bodiesFound ofLength (settingsAt b .low) (settingsAt b .high) 1 (patternsOf b))))
+    (bodiesFound ofLength (settingsAt b .low) (settingsAt b .high) 1 (patternsOf b)))

@@ -1,35 +1,14 @@
--- What the bytes of a bank say: its settings, and its patterns with their steps.
+-- What the bytes of a bank say behind the settings: its patterns with their steps.
 -- Assumes nothing.
 use Prim.Native.Nat.{ℕ, zero, suc, _+_, _*_, _-_, _/_}
 use mathlib.Core.List.{List, [], _∷_}
 use lib.ListN.{getD}
-use lib.IntN.{ℤ, pos}
+use lib.IntN.{pos}
 use mir.Syntax.{w16}
 use Rattle.field.specs.Field.{field, signedField}
-use Rattle.bank.specs.declared.Settings.{Settings}
+use Rattle.field.specs.Tab.{tab}
 use Rattle.bank.specs.declared.Step.{Step}
-
--- what f says at m places, the first of them at, each next w further
-unfoldable pub tab : {A : Type 0} → (ℕ → A) → ℕ → ℕ → ℕ → List A
-tab f w at zero = []
-tab f w at (suc m) = f at ∷ tab f w (at + w) m
-
--- the settings, by their offsets
-unfoldable pub settingsAt : List ℕ → Settings
-settingsAt b = record {
-  patterns = field 1 b 0;
-  start = field 1 b 1;
-  outage = field 1 b 2;
-  low = signedField w16 b 3;
-  high = signedField w16 b 5;
-  initial = signedField w16 b 7;
-  width = field 2 b 9;
-  filter = field 2 b 11;
-  zones = tab (field 2 b) 4 13 4;
-  waits = tab (field 2 b) 4 15 4;
-  on = tab (field 2 b) 4 29 4;
-  off = tab (field 2 b) 4 31 4;
-}
+use Rattle.bank.specs.declared.Place.{Place}
 
 -- pair p (from 1) of body offset and length
 abbrev pub offsetOf : List ℕ → ℕ → ℕ
@@ -85,3 +64,7 @@ patternOf b p = numbered noPattern (patternsOf b) p
 
 unfoldable pub stepOf : List ℕ → ℕ → ℕ → Step
 stepOf b p k = numbered noStep (patternOf b p .steps) k
+
+-- both, with runs and count of the pattern
+unfoldable pub placeOf : List ℕ → ℕ → ℕ → Place
+placeOf b p k = record { step = stepOf b p k; count = patternOf b p .count; runs = patternOf b p .runs }

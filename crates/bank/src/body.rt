@@ -1,23 +1,25 @@
 // The bodies of the patterns, and the check of a whole bank.
 ghost use mathlib.Core.Path.{_≡_};
-ghost use Prim.Native.Nat.{_+_, _<_};
+ghost use Prim.Native.Nat.{_+_, _≤_};
 ghost use lib.Dec.{leb, eqb};
-ghost use lib.IntN.{ℤ};
+ghost use lib.ListN.{length};
 ghost use Rattle.field.specs.Field.{field};
-ghost use Rattle.bank.specs.Range.{both};
-ghost use Rattle.bank.specs.View.{tab, stepAt, noStep, patternAt};
-ghost use Rattle.bank.specs.Check.{stepRight, bodiesFound, ofLength, foundIn};
-use crate::Checked;
+ghost use Rattle.setting.specs.Range.{both};
+ghost use Rattle.bank.specs.View.{stepAt, noStep, patternAt};
+ghost use Rattle.field.specs.Tab.{tab};
+ghost use Rattle.bank.specs.Check.{stepRight, pairsFound, bodiesFound, ofLength, foundIn};
 use crate::Step;
+use crate::pair::body_in;
 use crate::pair::check_pairs;
-use crate::pair::offset_of;
-use crate::pair::steps_of;
-use crate::range::in_limits;
-use crate::range::wide;
-use crate::setting;
+use crate::pair::steps_in;
 use field::byte;
+use field::join2;
 use field::signed;
+use field::signed_of;
 use field::word;
+use setting::Checked;
+use setting::check_settings_in;
+use setting::in_limits;
 
 pub fn no_step() -> Step
     ensures { λ r. ⌜ r ≡ noStep ⌝ }
@@ -30,68 +32,64 @@ pub fn no_step() -> Step
     }
 }
 
-// The step at an offset.
-pub fn step_at(bank: &[u8], at: usize) -> Step
-    requires { ⌜ at < 1000000 ⌝ }
-    ensures { λ r. ⌜ r ≡ stepAt (now (bank .entry)) at ⌝ }
+// The step at an offset, all of whose bytes are there.
+fn step_in(bytes: &[u8], at: usize) -> Step
+    requires { ⌜ at + 9 ≤ length (now bytes) ⌝ }
+    ensures { λ r. ⌜ r ≡ stepAt (now (bytes .entry)) at ⌝ }
 {
-    let target = signed(bank, at);
-    let minutes = word(bank, at + 2);
-    let wait = byte(bank, at + 4);
+    let signals = [bytes[at + 5], bytes[at + 6], bytes[at + 7], bytes[at + 8]];
+    Step {
+        target: signed_of(join2(bytes[at], bytes[at + 1])),
+        minutes: join2(bytes[at + 2], bytes[at + 3]),
+        wait: bytes[at + 4],
+        signals,
+    }
+}
+
+// The step at an offset.
+pub fn step_at(bytes: &[u8], at: usize) -> Step
+    ensures { λ r. ⌜ r ≡ stepAt (now (bytes .entry)) at ⌝ }
+{
+    if bytes.len() <= at {
+        return no_step();
+    }
+    if 9 <= bytes.len() - at {
+        return step_in(bytes, at);
+    }
     let signals = [
-        byte(bank, at + 5),
-        byte(bank, at + 6),
-        byte(bank, at + 7),
-        byte(bank, at + 8),
+        byte(bytes, at + 5),
+        byte(bytes, at + 6),
+        byte(bytes, at + 7),
+        byte(bytes, at + 8),
     ];
     Step {
-        target,
-        minutes,
-        wait,
+        target: signed(bytes, at),
+        minutes: word(bytes, at + 2),
+        wait: byte(bytes, at + 4),
         signals,
     }
 }
 
 // Whether a step is right, under the set value limits.
-pub fn step_right(low: i16, high: i16, s: Step) -> bool
+pub fn check_step(low: i16, high: i16, s: Step) -> bool
     ensures { λ r. ⌜ r ≡ stepRight low high s ⌝ }
 {
-    let target = s.target;
-    if !in_limits(low, target, high) {
-        return false;
-    }
-    if 6000 < s.minutes {
-        return false;
-    }
-    if 4 < s.wait {
-        return false;
-    }
     let signals = s.signals;
-    if 5 < signals[0] {
-        return false;
-    }
-    if 5 < signals[1] {
-        return false;
-    }
-    if 5 < signals[2] {
-        return false;
-    }
-    signals[3] <= 5
+    let on = (signals[0] <= 5) & ((signals[1] <= 5) & ((signals[2] <= 5) & (signals[3] <= 5)));
+    in_limits(low, s.target, high) & ((s.minutes <= 6000) & ((s.wait <= 4) & on))
 }
 
 // Whether the body at an offset has right runs, and the number of steps that its length gives.
 fn body_right(bank: &[u8], at: usize, s: usize) -> bool
-    requires { ⌜ at < 65536 ⌝ }
+    requires { ⌜ at + 2 ≤ length (now bank) ⌝ }
     ensures { λ r. ⌜ r ≡ both (leb (field 1 (now (bank .entry)) at) 99) (eqb (field 1 (now (bank .entry)) (at + 1)) s) ⌝ }
 {
-    if 99 < byte(bank, at) {
-        return false;
-    }
-    wide(byte(bank, at + 1)) == s
+    (bank[at] <= 99) & (bank[at + 1] as usize == s)
 }
 
-// The bodies of n patterns: the first wrong field ends both loops, with its place.
+// The bodies of n patterns, whose pairs are right: the first wrong field ends both loops, with its place.
 fn check_bodies(bank: &[u8], n: u8, low: i16, high: i16) -> Checked
+    requires { ⌜ pairsFound (now bank) n ≡ Checked.Accepted ⌝ }
     ensures { λ r. ⌜ r ≡ bodiesFound ofLength low high 1 (tab (patternAt (now (bank .entry))) 1 1 n) ⌝ }
 {
     let mut p: u8 = 0;
@@ -99,14 +97,15 @@ fn check_bodies(bank: &[u8], n: u8, low: i16, high: i16) -> Checked
         if n <= p {
             break 'walk Checked::Accepted;
         }
-        let at = offset_of(bank, p + 1);
-        let s = steps_of(bank, p + 1);
+        let body = body_in(bank, p + 1);
+        let at = body.at;
+        let s = steps_in(body.len);
         if !body_right(bank, at, s) {
             break 'walk Checked::Body(p + 1, 0);
         }
         let mut k: usize = 0;
         while k < s {
-            if !step_right(low, high, step_at(bank, at + 2 + 9 * k)) {
+            if !check_step(low, high, step_in(bank, at + 2 + 9 * k)) {
                 break 'walk Checked::Body(p + 1, (k + 1) as u8);
             }
             k += 1;
@@ -119,18 +118,14 @@ fn check_bodies(bank: &[u8], n: u8, low: i16, high: i16) -> Checked
 pub fn check(bank: &[u8]) -> Checked
     ensures { λ r. ⌜ r ≡ foundIn (now (bank .entry)) ⌝ }
 {
-    if bank.len() < 45 {
-        return Checked::Short;
-    }
-    let s = setting::settings(bank);
-    let settings = setting::check(s);
+    let settings = check_settings_in(bank);
     let Checked::Accepted = settings else {
         return settings;
     };
-    let n = s.patterns;
+    let n = byte(bank, 0);
     let pairs = check_pairs(bank, n);
     let Checked::Accepted = pairs else {
         return pairs;
     };
-    check_bodies(bank, n, s.low, s.high)
+    check_bodies(bank, n, signed(bank, 3), signed(bank, 5))
 }

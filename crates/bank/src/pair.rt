@@ -1,44 +1,60 @@
 // The pairs of body offset and length.
 ghost use mathlib.Core.Path.{_≡_};
-ghost use Prim.Native.Nat.{_<_, _≤_};
+ghost use Prim.Native.Nat.{_+_, _*_, _<_, _≤_, _/_, _%_};
+ghost use lib.ListN.{length};
 ghost use Rattle.field.specs.Field.{field};
-ghost use Rattle.bank.specs.Range.{between};
-ghost use Rattle.bank.specs.View.{offsetOf, lengthOf, stepsIn};
+ghost use Rattle.setting.specs.Range.{between};
+ghost use Rattle.bank.specs.View.{stepsIn};
 ghost use Rattle.bank.specs.Check.{pairRight, pairsFound};
-use crate::Checked;
+ghost use Rattle.bank.specs.Pair.{Gives};
 use crate::capacity;
-use crate::range::in_range;
-use crate::range::long;
-use crate::range::wide;
-use crate::range::wide16;
 use field::byte;
-use field::word;
+use field::join4;
+use field::long;
+use setting::Checked;
+
+// Where a body lies.
+pub struct Extent {
+    pub at: usize,
+    pub len: usize,
+}
 
 // Whether pattern p is there.
 pub fn has_pattern(bank: &[u8], p: u8) -> bool
     ensures { λ r. ⌜ r ≡ between 1 p (field 1 (now (bank .entry)) 0) ⌝ }
 {
-    in_range(1, long(p), long(byte(bank, 0)))
+    (1 <= p) & (p <= byte(bank, 0))
 }
 
-// Offset and length that the pair of pattern p gives.
-pub fn offset_of(bank: &[u8], p: u8) -> usize
-    ensures { λ r. ⌜ (r ≡ offsetOf (now (bank .entry)) p) × (r < 65536) ⌝ }
+// The two halves of a pair.
+fn halves(x: u32) -> Extent
+    ensures { λ r. ⌜ (r .at ≡ x % 65536) × (r .len ≡ x / 65536) ⌝ }
 {
-    wide16(word(bank, 41 + 4 * wide(p)))
+    Extent {
+        at: (x % 65536) as usize,
+        len: (x / 65536) as usize,
+    }
 }
 
-pub fn length_of(bank: &[u8], p: u8) -> usize
-    ensures { λ r. ⌜ (r ≡ lengthOf (now (bank .entry)) p) × (r < 65536) ⌝ }
+// Offset and length that the pair of pattern p gives; and those of a pair that is there.
+pub fn body_of(bank: &[u8], p: u8) -> Extent
+    ensures { λ r. ⌜ Gives (now (bank .entry)) p r ⌝ }
 {
-    wide16(word(bank, 43 + 4 * wide(p)))
+    halves(long(bank, 41 + 4 * (p as usize)))
 }
 
-// The number of steps of pattern p, by the length of its body.
-pub fn steps_of(bank: &[u8], p: u8) -> usize
-    ensures { λ r. ⌜ (r ≡ stepsIn (lengthOf (now (bank .entry)) p)) × (r < 65536) ⌝ }
+pub fn body_in(bank: &[u8], p: u8) -> Extent
+    requires { ⌜ 45 + 4 * p ≤ length (now bank) ⌝ }
+    ensures { λ r. ⌜ Gives (now (bank .entry)) p r ⌝ }
 {
-    let len = length_of(bank, p);
+    let at = 41 + 4 * (p as usize);
+    halves(join4(bank[at], bank[at + 1], bank[at + 2], bank[at + 3]))
+}
+
+// The number of steps of a body, by its length.
+pub fn steps_in(len: usize) -> usize
+    ensures { λ r. ⌜ r ≡ stepsIn len ⌝ }
+{
     if len < 2 { 0 } else { (len - 2) / 9 }
 }
 
@@ -47,20 +63,8 @@ fn pair_right(offset: usize, len: usize, due: usize, cap: usize, size: usize) ->
     requires { ⌜ (due < 1048576) × (len < 65536) ⌝ }
     ensures { λ r. ⌜ r ≡ pairRight offset len due cap size ⌝ }
 {
-    if offset != due {
-        return false;
-    }
-    if len < 2 {
-        return false;
-    }
-    let s = (len - 2) / 9;
-    if len != 2 + 9 * s {
-        return false;
-    }
-    if cap < s {
-        return false;
-    }
-    due + len <= size
+    let s = steps_in(len);
+    (offset == due) & ((len == 2 + 9 * s) & ((s <= cap) & (due + len <= size)))
 }
 
 // The pairs, and the end of the bank where the last body ends.
@@ -69,19 +73,18 @@ pub fn check_pairs(bank: &[u8], n: u8) -> Checked
     ensures { λ r. ⌜ r ≡ pairsFound (now (bank .entry)) n ⌝ }
 {
     let size = bank.len();
-    let mut due = 45 + 4 * wide(n);
+    let mut due = 45 + 4 * (n as usize);
     if size < due {
         return Checked::Pair(0);
     }
-    let cap = wide(capacity(n));
+    let cap = capacity(n) as usize;
     let mut i: u8 = 0;
     while i < n {
-        let o = offset_of(bank, i + 1);
-        let l = length_of(bank, i + 1);
-        if !pair_right(o, l, due, cap, size) {
+        let body = body_in(bank, i + 1);
+        if !pair_right(body.at, body.len, due, cap, size) {
             return Checked::Pair(i + 1);
         }
-        due += l;
+        due += body.len;
         i += 1;
     }
     if due == size {

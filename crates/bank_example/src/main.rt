@@ -1,9 +1,9 @@
 // Writes the bank of the document's last example, checks it, and compares it with bank.bin.
-use bank::Checked;
-use bank::Patterns;
-use bank::Settings;
 use bank::Step;
 use libc::STDOUT_FILENO;
+use setting::Checked;
+use setting::Settings;
+use writer::Patterns;
 use writer::Written;
 
 fn example_settings() -> Settings {

@@ -1,73 +1,52 @@
 // The 99 credits of a record, from offset 15 on, four bytes each.
 ghost use mathlib.Core.Path.{_≡_};
-ghost use Prim.Native.Nat.{_+_, _≤_};
+ghost use Prim.Native.Nat.{_-_, _/_, _≤_, min};
 ghost use lib.ListN.{length};
 ghost use lib.Seq.{sets};
-ghost use Rattle.field.specs.Field.{field, digits};
 ghost use Rattle.field.specs.Row.{row, rowAt};
 ghost use Rattle.checkpoint.specs.Record.{creditWidths};
+use field::join4;
 
-fn wide(x: u8) -> u32
-    ensures { λ r. ⌜ (r ≡ x) × (r ≤ 255) ⌝ }
+// How many of the credits have all their bytes in a record of a size.
+fn whole_credits(size: usize) -> usize
+    ensures { λ r. ⌜ r ≡ min 99 ((size - 15) / 4) ⌝ }
 {
-    x as u32
-}
-
-// Two bytes that are there.
-fn word_in(store: &[u8], at: usize) -> u32
-    requires { ⌜ at + 2 ≤ length (now store) ⌝ }
-    ensures { λ r. ⌜ (r ≡ field 2 (now (store .entry)) at) × (r ≤ 65535) ⌝ }
-{
-    wide(store[at]) + 256 * wide(store[at + 1])
-}
-
-// A credit: in a record of 411 bytes its four bytes are there, and are read at once.
-fn credit_at(store: &[u8], at: usize) -> u32
-    requires { ⌜ at + 4 ≤ 411 ⌝ }
-    ensures { λ r. ⌜ r ≡ field 4 (now (store .entry)) at ⌝ }
-{
-    if store.len() < 411 {
-        return field::long(store, at);
+    if 411 <= size {
+        return 99;
     }
-    word_in(store, at) + 65536 * word_in(store, at + 2)
+    if size < 15 {
+        return 0;
+    }
+    (size - 15) / 4
 }
 
-// The credits of a record.
+// The credits of a record. Bytes past the end read as 0.
 pub fn credits(store: &[u8]) -> [u32; 99]
     ensures { λ r. ⌜ r ≡ rowAt creditWidths (now (store .entry)) 15 ⌝ }
 {
+    let whole = whole_credits(store.len());
     let mut cs = [0u32; 99];
     let mut i: usize = 0;
-    while i < 99 {
-        cs[i] = credit_at(store, 15 + 4 * i);
+    while i < whole {
+        let at = 15 + 4 * i;
+        cs[i] = join4(store[at], store[at + 1], store[at + 2], store[at + 3]);
         i += 1;
     }
+    if whole == 99 {
+        return cs;
+    }
+    cs[whole] = field::long(store, 15 + 4 * whole);
     cs
 }
 
-// Four bytes of a number.
-fn put_credit(store: &mut [u8], at: usize, v: u32)
-    requires { ⌜ at + 4 ≤ length (now store) ⌝ }
-    ensures { λ _. ⌜ now (store .exit) ≡ sets (now (store .entry)) at (digits 4 v) ⌝ }
-{
-    let x = v / 256;
-    let y = x / 256;
-    let z = y / 256;
-    store[at] = (v % 256) as u8;
-    store[at + 1] = (x % 256) as u8;
-    store[at + 2] = (y % 256) as u8;
-    store[at + 3] = (z % 256) as u8;
-}
-
 // The credits are written.
-pub fn put_credits(store: &mut [u8], credits: &[u32; 99])
-    requires { ⌜ (411 ≤ length (now store)) × (length (now credits) ≡ 99) ⌝ }
-    ensures { λ _. ⌜ now (store .exit) ≡ sets (now (store .entry)) 15 (row creditWidths (now (credits .entry))) ⌝ }
+pub fn put_credits(store: &mut [u8], credits: [u32; 99])
+    requires { ⌜ 411 ≤ length (now store) ⌝ }
+    ensures { λ _. ⌜ now (store .exit) ≡ sets (now (store .entry)) 15 (row creditWidths credits) ⌝ }
 {
     let mut i: usize = 0;
     while i < 99 {
-        let v = credits[i];
-        put_credit(store, 15 + 4 * i, v);
+        field::put(store, 15 + 4 * i, 4, credits[i] as u64);
         i += 1;
     }
 }

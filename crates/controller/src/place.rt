@@ -1,21 +1,22 @@
 // What a bank says at a position.
 ghost use mathlib.Core.Path.{_≡_};
-ghost use Rattle.bank.specs.View.{settingsAt};
+ghost use Rattle.setting.specs.Setting.{settingsAt};
 ghost use Rattle.controller.specs.Plain.{hereOf, acceptedAt};
 use crate::Answer;
-use bank::Settings;
 use program::Here;
 use program::Position;
+use setting::Settings;
 
 // Its step, the number s of steps of its pattern, and the limit of passes.
 pub fn here_at(bank: &[u8], p: Position) -> Here
     ensures { λ r. ⌜ r ≡ hereOf (now (bank .entry)) p ⌝ }
 {
-    let step = bank::step_of(bank, p.pattern, p.step);
+    let place = bank::place_of(bank, p.pattern, p.step);
+    let step = place.step;
     Here {
-        step: step,
-        last: bank::count_of(bank, p.pattern),
-        limit: program::limit(bank::runs_of(bank, p.pattern)),
+        step,
+        last: place.count,
+        limit: program::limit(place.runs),
     }
 }
 

@@ -4,18 +4,18 @@ use mathlib.Core.Path.{_≡_, refl, sym, ap, _∙_, subst}
 use mathlib.Core.Bool.{Bool, true, false, cond, false≢true}
 use mathlib.Core.Logic.{_⊎_, inl, inr}
 use mathlib.Core.List.{List, [], _∷_, _++_}
-use Prim.Native.Nat.{ℕ, zero, suc, _+_, _*_, _-_, _/_, _%_, _^_, _≤_, _<_, min}
-use native.Mathlib.Nat.{suc-add, pow-suc, pow-succ', pow-zero, pow-le-pow-right, add-zero, one-mul, mul-assoc, div-lt-iff-lt-mul}
+use Prim.Native.Nat.{ℕ, zero, suc, _+_, _*_, _-_, _/_, _%_, _^_, _≤_, _<_}
+use native.Mathlib.Nat.{suc-add, pow-suc, pow-succ', pow-zero, add-zero, one-mul, mul-assoc, div-lt-iff-lt-mul}
 use native.Mathlib.Numerals.{add-one}
 use native.Mathlib.Omega.{arith}
 use borrow.Author.Tests.{le-leb, lt-leb, leb-false}
 use lib.Dec.{T, leb, lit<}
 use lib.IntN.{ℤ, pos, negsuc, natAbs}
 use lib.Signed.{leZ, nonNeg}
-use lib.ListN.{length, take, drop, getD, set, length-set, length-append}
-use lib.Seq.{sets, length-sets, drop-cons, drop-nil, take-nil, take-all, take-at, drop-at, drop-drop, getD-drop, getD-set-same, getD-set-other, ext-getD}
+use lib.ListN.{length, take, drop, getD, set, length-set}
+use lib.Seq.{sets, length-sets, drop-cons, drop-nil, take-nil, take-at, getD-set-same, getD-set-other, ext-getD}
 use mir.Syntax.{Width, w8, w16, w32, w64, w128}
-use mir.Val.{bits, Fits, SFits, toZ, ofZ}
+use mir.Val.{bits, hbits, Fits, SFits, toZ, ofZ}
 use mir.Facts.{toZ-ofZ, ofZ-toZ, fits-ofZ}
 use Rattle.field.specs.Field.{num, field, digits, stored, bytes, signedField}
 
@@ -59,6 +59,32 @@ field-split (suc v) w b i =
 
 pub field-one : (b : List ℕ) (i : ℕ) → field 1 b i ≡ getD b i 0
 field-one b i = omega (arith, field-more 0 b i, field-none b (i + 1))
+
+-- two and four bytes
+pub field-two : (b : List ℕ) (i : ℕ) → field 2 b i ≡ getD b i 0 + 256 * getD b (i + 1) 0
+field-two b i = omega (arith, field-more 1 b i, field-one b (i + 1))
+
+-- two bytes, wherever they are said to stand, that are a number
+pub field-joined : (b : List ℕ) (i j n : ℕ) {x : ℕ} → x ≡ getD b i 0 + 256 * getD b j 0 → i ≡ n → j ≡ n + 1 → x ≡ field 2 b n
+field-joined b i j n e f g = e ∙ (λ k. getD b (f k) 0 + 256 * getD b (g k) 0) ∙ sym (field-two b n)
+
+pub field-four : (b : List ℕ) (i : ℕ) → field 4 b i ≡ getD b i 0 + 256 * getD b (i + 1) 0 + 65536 * (getD b (i + 2) 0 + 256 * getD b (i + 3) 0)
+field-four b i =
+    let e : i + 2 + 1 ≡ i + 3 = omega arith in
+    let high : field 2 b (i + 2) ≡ getD b (i + 2) 0 + 256 * getD b (i + 3) 0 = field-two b (i + 2) ∙ rw e in
+    omega (arith, field-split 2 2 b i, field-two b i)
+
+-- a field is what its bytes are
+pub field-same : (w : ℕ) (a b : List ℕ) (i j : ℕ) → ((k : ℕ) → k < w → getD a (i + k) 0 ≡ getD b (j + k) 0) → field w a i ≡ field w b j
+field-same zero a b i j h = field-none a i ∙ sym (field-none b j)
+field-same (suc w) a b i j h =
+    let first : getD a i 0 ≡ getD b j 0 = simp add-zero at (h 0 (omega arith)) in
+    let rest : field w a (i + 1) ≡ field w b (j + 1) =
+    field-same w a b (i + 1) (j + 1) (λ k l. rw (← one-more i k, ← one-more j k) (h (suc k) (omega arith))) in
+    omega (arith, field-more w a i, field-more w b j)
+  where
+    one-more : (n k : ℕ) → n + suc k ≡ n + 1 + k
+    one-more n k = omega arith
 
 -- the number read is below the width's power
 pub field-below : (w : ℕ) (b : List ℕ) (i : ℕ) → Bytes b → field w b i < 256 ^ w
@@ -212,32 +238,31 @@ unfolding signedField
 signed-bits w b i small =
     ofZ-toZ {w = w} (record { fits = subst (λ (n : ℕ). field (bytes w) b i < n) (power w) (field-below (bytes w) b i small) })
 
--- the bits of a signed word that is not below 0
-pub lower : (x : ℤ) → SFits w16 x → leZ (pos 0) x ≡ true → (T (nonNeg x) × Fits w16 (natAbs x)) × (natAbs x ≡ ofZ w16 x)
-lower (pos n) f e = let l : n < 32768 = f .sfits in ((tt, omega arith), refl)
-lower (negsuc n) f e = absurd (false≢true e)
+-- the largest number of a width, and its halves
+abbrev pub ones : Width → ℕ
+ones w = 2 ^ bits w - 1
 
--- the bits of a signed word that is below 0
-pub upper : (x : ℤ) → SFits w16 x → leZ (pos 0) x ≡ false → (65535 - ofZ w16 x < 32768) × (ofZ w16 x ≤ 65535)
-upper (pos n) f e = let l = leb-false 0 n e in absurd (omega arith)
-upper (negsuc n) f e = let l : n < 32768 = f .sfits in (omega arith, omega arith)
+halves : (w : Width) → 2 ^ bits w ≡ 2 * 2 ^ hbits w
+halves w8 = refl
+halves w16 = refl
+halves w32 = refl
+halves w64 = refl
+halves w128 = refl
 
--- ---- the loops
+-- the complement of the complement has the bits again
+pub complement : (w : Width) (x : ℕ) → x ≤ ones w → toZ w (ones w - (ones w - x)) ≡ toZ w x
+complement w x h = let e : ones w - (ones w - x) ≡ x = omega arith in ap (toZ w) e
 
--- a turn of the loop that reads, downwards: one byte more in front
-pub read-turn : (b : List ℕ) (at i w : ℕ) → 0 < i → i ≤ w → field (w - (i - 1)) b (at + (i - 1)) ≡ field (w - i) b (at + i) * 256 + field 1 b (at + (i - 1))
-read-turn b at i w h l =
-    let e : w - (i - 1) ≡ suc (w - i) = omega arith in
-    let f : at + (i - 1) + 1 ≡ at + i = omega arith in
-    let m : field (suc (w - i)) b (at + (i - 1)) ≡ getD b (at + (i - 1)) 0 + 256 * field (w - i) b (at + i) = field-more (w - i) b (at + (i - 1)) ∙ rw f in
-    rw e (omega (arith, field-one b (at + (i - 1))))
+-- the bits of a signed number that is not below 0, and of one that is
+pub lower : (w : Width) (x : ℤ) → SFits w x → leZ (pos 0) x ≡ true → (T (nonNeg x) × Fits w (natAbs x)) × (natAbs x ≡ ofZ w x)
+lower w (pos n) f e = ((tt, fits-ofZ f), refl)
+lower w (negsuc n) f e = absurd (false≢true e)
 
--- the bound that goes with it
-pub more : (n x b : ℕ) → x < 256 ^ n → b < 256 → x * 256 + b < 256 ^ suc n
-more n x b h k = omega (arith, pow-succ' 256 n)
+pub upper : (w : Width) (x : ℤ) → SFits w x → leZ (pos 0) x ≡ false → (ones w - ofZ w x < 2 ^ hbits w) × (ofZ w x ≤ ones w)
+upper w (pos n) f e = let l = leb-false 0 n e in absurd (omega arith)
+upper w (negsuc n) f e = (omega (arith, f .sfits, halves w), omega arith)
 
-pub small : (n x : ℕ) → x < 256 ^ n → n ≤ 7 → x < 256 ^ 7
-small n x h k = omega (arith, pow-le-pow-right {n = 256} (omega arith) k)
+-- ---- the loop
 
 -- a turn of the loop that writes: the rest of the bytes, stored from one place further
 pub write-turn : (b : List ℕ) (at i w x : ℕ) → i < w → sets (set b (at + i) (x % 256)) (at + (i + 1)) (digits (w - (i + 1)) (x / 256)) ≡ sets b (at + i) (digits (w - i) x)

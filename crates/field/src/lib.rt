@@ -1,7 +1,7 @@
 // Numbers in bytes, low byte first, read and written at an offset. Bytes past the end read as 0, and a write that does not fit
 // changes nothing, so no function asks anything of its caller.
 ghost use mathlib.Core.Path.{_≡_};
-ghost use Prim.Native.Nat.{_+_, _-_, _≤_, _<_, min};
+ghost use Prim.Native.Nat.{_+_, _*_, _≤_};
 ghost use lib.ListN.{length};
 ghost use mir.Syntax.{w16, w32};
 ghost use mir.Val.{toZ, ofZ};
@@ -10,6 +10,19 @@ ghost use Rattle.field.specs.Field.{field, signedField, digits, stored};
 ghost use Rattle.field.specs.Row.{row, total, storedRow};
 ghost use lib.Dec.{leb};
 
+// The numbers whose bytes these are.
+pub fn join2(a: u8, b: u8) -> u16
+    ensures { λ r. ⌜ r ≡ a + 256 * b ⌝ }
+{
+    a as u16 + 256 * (b as u16)
+}
+
+pub fn join4(a: u8, b: u8, c: u8, d: u8) -> u32
+    ensures { λ r. ⌜ r ≡ a + 256 * b + 65536 * (c + 256 * d) ⌝ }
+{
+    join2(a, b) as u32 + 65536 * (join2(c, d) as u32)
+}
+
 // The byte at an offset.
 pub fn byte(b: &[u8], at: usize) -> u8
     ensures { λ r. ⌜ r ≡ field 1 (now (b .entry)) at ⌝ }
@@ -17,27 +30,25 @@ pub fn byte(b: &[u8], at: usize) -> u8
     if at < b.len() { b[at] } else { 0 }
 }
 
-fn wide(x: u8) -> u16
-    ensures { λ r. ⌜ r ≡ x ⌝ }
-{
-    x as u16
-}
-
 // The 16-bit number at an offset.
 pub fn word(b: &[u8], at: usize) -> u16
     ensures { λ r. ⌜ r ≡ field 2 (now (b .entry)) at ⌝ }
 {
     if at < b.len() {
-        wide(byte(b, at)) + 256 * wide(byte(b, at + 1))
-    } else {
-        0
+        if 2 <= b.len() - at {
+            return join2(b[at], b[at + 1]);
+        }
+        return join2(b[at], 0);
     }
+    0
 }
 
-fn long_of(x: u16) -> u32
-    ensures { λ r. ⌜ r ≡ x ⌝ }
+// The 32-bit number at an offset, all of whose bytes are there.
+fn long_in(b: &[u8], at: usize) -> u32
+    requires { ⌜ at + 4 ≤ length (now b) ⌝ }
+    ensures { λ r. ⌜ r ≡ field 4 (now (b .entry)) at ⌝ }
 {
-    x as u32
+    join4(b[at], b[at + 1], b[at + 2], b[at + 3])
 }
 
 // The 32-bit number at an offset.
@@ -45,14 +56,29 @@ pub fn long(b: &[u8], at: usize) -> u32
     ensures { λ r. ⌜ r ≡ field 4 (now (b .entry)) at ⌝ }
 {
     if at < b.len() {
-        long_of(word(b, at)) + 65536 * long_of(word(b, at + 2))
-    } else {
-        0
+        if 4 <= b.len() - at {
+            return long_in(b, at);
+        }
+        return join4(byte(b, at), byte(b, at + 1), byte(b, at + 2), 0);
     }
+    0
 }
 
-// The signed number whose 16 bits these are.
-fn signed_of(x: u16) -> i16
+// The 64-bit number at an offset.
+pub fn quad(b: &[u8], at: usize) -> u64
+    ensures { λ r. ⌜ r ≡ field 8 (now (b .entry)) at ⌝ }
+{
+    if at < b.len() {
+        if 8 <= b.len() - at {
+            return long_in(b, at) as u64 + 4294967296 * (long_in(b, at + 4) as u64);
+        }
+        return long(b, at) as u64 + 4294967296 * (long(b, at + 4) as u64);
+    }
+    0
+}
+
+// The signed numbers whose bits these are.
+pub fn signed_of(x: u16) -> i16
     ensures { λ r. ⌜ r ≡ toZ w16 x ⌝ }
 {
     if x < 32768 {
@@ -62,14 +88,6 @@ fn signed_of(x: u16) -> i16
     }
 }
 
-// The signed 16-bit number at an offset.
-pub fn signed(b: &[u8], at: usize) -> i16
-    ensures { λ r. ⌜ r ≡ signedField w16 (now (b .entry)) at ⌝ }
-{
-    signed_of(word(b, at))
-}
-
-// The signed number whose 32 bits these are.
 fn signed_long_of(x: u32) -> i32
     ensures { λ r. ⌜ r ≡ toZ w32 x ⌝ }
 {
@@ -80,7 +98,13 @@ fn signed_long_of(x: u32) -> i32
     }
 }
 
-// The signed 32-bit number at an offset.
+// The signed numbers at an offset, of 16 and of 32 bits.
+pub fn signed(b: &[u8], at: usize) -> i16
+    ensures { λ r. ⌜ r ≡ signedField w16 (now (b .entry)) at ⌝ }
+{
+    signed_of(word(b, at))
+}
+
 pub fn signed_long(b: &[u8], at: usize) -> i32
     ensures { λ r. ⌜ r ≡ signedField w32 (now (b .entry)) at ⌝ }
 {
@@ -96,32 +120,6 @@ pub fn bits(x: i16) -> u16
     } else {
         65535 - ((!x) as u16)
     }
-}
-
-// The number of `width` bytes at an offset. A width above 8 is taken as 8.
-pub fn get(b: &[u8], at: usize, width: usize) -> u64
-    ensures { λ r. ⌜ r ≡ field (min width 8) (now (b .entry)) at ⌝ }
-{
-    if b.len() <= at {
-        return 0;
-    }
-    if width < 8 {
-        return get_digits(b, at, width);
-    }
-    get_digits(b, at, 8)
-}
-
-fn get_digits(b: &[u8], at: usize, width: usize) -> u64
-    requires { ⌜ (at < length (now b)) × (width ≤ 8) ⌝ }
-    ensures { λ r. ⌜ r ≡ field width (now (b .entry)) at ⌝ }
-{
-    let mut i = width;
-    let mut x: u64 = 0;
-    while 0 < i {
-        i -= 1;
-        x = x * 256 + byte(b, at + i) as u64;
-    }
-    x
 }
 
 // The `width` low bytes of a number are written at an offset, if they fit there.
@@ -191,7 +189,7 @@ fn put_all(b: &mut [u8], at: usize, widths: &[u8], numbers: &[u32])
     let mut to = at;
     while i < widths.len() {
         let width = widths[i] as usize;
-        put(b, to, width, numbers[i] as u64);
+        put_digits(b, to, width, numbers[i] as u64);
         to += width;
         i += 1;
     }

@@ -1,27 +1,23 @@
 -- Walking a list of events, five bytes at a time.
 -- Assumes nothing.
-use mathlib.Core.Path.{_≡_, refl, sym, ap, _∙_}
+use mathlib.Core.Path.{_≡_, sym, ap, _∙_}
 use mathlib.Core.List.{List, [], _∷_}
-use Prim.Native.Nat.{ℕ, zero, suc, _+_, _*_, _-_, _/_, _%_, _≤_, _<_}
+use Prim.Native.Nat.{ℕ, suc, _+_, _-_, _/_, _%_, _≤_, _<_}
 use native.Mathlib.Omega.{arith}
-use mathlib.Core.Bool.{Bool, true, false}
+use mathlib.Core.Bool.{true, false}
 use borrow.Author.Tests.{eq-eqb, eqb-true, le-leb, lt-leb}
 use lib.ListN.{length}
 use Rattle.field.specs.Field.{field}
-use Rattle.bank.specs.Range.{both}
-use Rattle.bank.specs.View.{tab}
+use Rattle.setting.specs.Range.{both}
+use Rattle.field.specs.Tab.{tab}
 use Rattle.bank.specs.Check.{foundIn}
-use Rattle.bank.specs.declared.Checked.{Checked}
+use Rattle.setting.proofs.Laws.{both-left}
+use Rattle.setting.specs.declared.Checked.{Checked}
 use Rattle.controller.specs.declared.State.{State}
 use Rattle.controller.specs.declared.Event.{Event}
 use Rattle.controller.specs.declared.Answer.{Answer}
 use Rattle.controller.specs.Event.{After, left, eventsFrom, eventOf, eventPast}
 use Rattle.history.specs.Listed.{eventAt, eventsIn, knownAt, all, formed}
-
-both-left : (x y : Bool) → both x y ≡ true → x ≡ true
-unfolding both
-both-left true y h = refl
-both-left false y h = h
 
 -- what f says of the events from an offset on
 abbrev pub rest : {A : Type 0} → (ℕ → A) → ℕ → ℕ → List A

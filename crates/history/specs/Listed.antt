@@ -8,8 +8,8 @@ use lib.IntN.{ℤ}
 use lib.ListN.{length}
 use mir.Syntax.{w32}
 use Rattle.field.specs.Field.{field, signedField}
-use Rattle.bank.specs.Range.{both}
-use Rattle.bank.specs.View.{tab}
+use Rattle.setting.specs.Range.{both}
+use Rattle.field.specs.Tab.{tab}
 use Rattle.measure.specs.declared.Reading.{Reading}
 use Rattle.program.specs.declared.Command.{Command}
 use Rattle.controller.specs.declared.Event.{Event}

@@ -2,7 +2,7 @@
 ghost use mathlib.Core.Path.{_≡_};
 ghost use mathlib.Core.Bool.{true};
 ghost use Rattle.bank.specs.Check.{foundIn};
-ghost use Rattle.bank.specs.declared.Checked.{Checked};
+ghost use Rattle.setting.specs.declared.Checked.{Checked};
 ghost use Rattle.checkpoint.specs.Record.{sized};
 ghost use Rattle.controller.specs.Event.{left as after, eventsFrom};
 ghost use Rattle.controller.specs.Demand.{Demand3};

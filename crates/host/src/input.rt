@@ -2,13 +2,13 @@
 ghost use mathlib.Core.Path.{_≡_};
 ghost use Prim.Native.Nat.{_<_};
 ghost use Rattle.field.specs.Field.{field};
-ghost use Rattle.bank.specs.View.{tab, stepAt};
+ghost use Rattle.bank.specs.View.{stepAt};
+ghost use Rattle.field.specs.Tab.{tab};
 ghost use Rattle.host.specs.Calls.{patternsFrom};
-use bank::Patterns;
 use bank::Step;
+use bank::step_at;
 use field::byte;
-use field::signed;
-use field::word;
+use writer::Patterns;
 
 // Fifteen bytes, two apart.
 fn each_second(pairs: &[u8], at: usize) -> [u8; 15]
@@ -22,28 +22,6 @@ fn each_second(pairs: &[u8], at: usize) -> [u8; 15]
         i += 1;
     }
     xs
-}
-
-// The step at an offset.
-fn step_at(steps: &[u8], at: usize) -> Step
-    requires { ⌜ at < 1000 ⌝ }
-    ensures { λ r. ⌜ r ≡ stepAt (now (steps .entry)) at ⌝ }
-{
-    let target = signed(steps, at);
-    let minutes = word(steps, at + 2);
-    let wait = byte(steps, at + 4);
-    let signals = [
-        byte(steps, at + 5),
-        byte(steps, at + 6),
-        byte(steps, at + 7),
-        byte(steps, at + 8),
-    ];
-    Step {
-        target,
-        minutes,
-        wait,
-        signals,
-    }
 }
 
 // The 99 steps.

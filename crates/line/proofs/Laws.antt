@@ -1,170 +1,207 @@
--- The laws of a line's numbers, values and text.
+-- The laws of lines and their text, and of a sheet within its input.
 -- Assumes nothing.
-use mathlib.Core.Path.{_≡_, refl, sym, _∙_}
-use mathlib.Core.Bool.{Bool, true, false, cond, false≢true}
-use mathlib.Core.List.{List, [], _∷_, _++_, append-assoc}
-use Prim.Native.Nat.{ℕ, zero, suc, _+_, _*_, _-_, _/_, _%_, _^_, _≤_, _<_}
+use Prim.Native.Nat.{ℕ, _+_, _*_, _^_, _≤_, _<_, min}
+use mathlib.Core.Bool.{Bool, true, false, cond}
+use mathlib.Core.List.{List, [], _∷_, _++_, append-nil, map}
+use mathlib.Core.Path.{_≡_, refl, sym, ap, _∙_}
+use native.Mathlib.Nat.{zero-add}
 use native.Mathlib.Numerals.{add-one}
-use native.Mathlib.Nat.{pow-succ', pow-le-pow-right}
 use native.Mathlib.Omega.{arith}
-use borrow.Author.Tests.{le-leb, lt-leb, lt-ltb, le-ltb, leb-false}
-use lib.Dec.{T}
-use mir.Syntax.{w16, w32}
-use mir.Val.{Fits, SFits, toZ, ofZ}
-use mir.Facts.{toZ-ofZ, toZ-pos}
-use lib.IntN.{ℤ, pos, negsuc, natAbs, negℤ, _-ℤ_, +ℤ-idl}
-use lib.Signed.{leZ, nonNeg}
-use lib.ListN.{length, take, drop, getD, set, length-drop}
-use lib.Seq.{drop-cons, take-all, take-suc-set}
-use Rattle.bank.specs.Range.{both, between}
-use Rattle.measure.specs.declared.Reading.{Reading}
+use borrow.Author.Tests.{leb-true, leb-false}
+use lib.Dec.{eqb, leb}
+use lib.IntN.{ℤ, pos}
+use lib.ListN.{length, take, drop, getD, set, length-append}
+use lib.Seq.{sets, drop-cons, take-all, take-at, take-suc, take-suc-set, length-take-le}
+use mir.Facts.{toZ-pos}
+use mir.Syntax.{w64}
+use mir.Val.{toZ}
+use Rattle.field.proofs.Laws.{sets-append}
+use Rattle.setting.specs.Found.{numbersOf as bankNumbers, unless}
+use Rattle.bank.specs.Check.{foundIn}
+use Rattle.setting.specs.declared.Checked.{Checked}
+use Rattle.setting.specs.declared.Checked.the-variants.{Accepted, Short, Setting, Pair, Body}
+use Rattle.controller.specs.Event.{After as Made, numbersOf, eventOf, makeOf}
 use Rattle.controller.specs.declared.Event.{Event}
-use Rattle.line.specs.declared.Asked.{Asked}
-use Rattle.line.specs.declared.Number.{Number}
-use Rattle.line.specs.Text.{decimal, text}
-use Rattle.line.specs.Line.{areDigits, readOn, unsigned, negated, numberOf, isOnly, tick, return, tickOf, returnOf}
-
--- ---- digits
-
--- a turn of the loop that reads digits
-pub digits-turn : (cs : List ℕ) (i : ℕ) → i < length cs → areDigits (drop i cs) ≡ both (between 48 (getD cs i 0) 57) (areDigits (drop (i + 1) cs))
-unfolding areDigits
-digits-turn cs i h = rw (drop-cons cs i 0 h, add-one i)
-
-pub read-turn : (cs : List ℕ) (i n : ℕ) → i < length cs → readOn n (drop i cs) ≡ readOn (10 * n + (getD cs i 0 - 48)) (drop (i + 1) cs)
-unfolding readOn
-read-turn cs i n h = rw (drop-cons cs i 0 h, add-one i)
-
--- a byte that is a digit, or is none
-pub digit : (c : ℕ) (b : Bool) → 48 ≤ c → c ≤ 57 → both (between 48 c 57) b ≡ b
-unfolding both between
-digit c b l h = rw (le-leb 48 c l, le-leb c 57 h)
-
-pub below : (c : ℕ) (b : Bool) → c < 48 → both (between 48 c 57) b ≡ false
-unfolding both between
-below c b l = rw (lt-leb 48 c l)
-
-pub above : (c : ℕ) (b : Bool) → 48 ≤ c → 57 < c → both (between 48 c 57) b ≡ false
-unfolding both between
-above c b l h = rw (le-leb 48 c l, lt-leb c 57 h)
-
--- the bound that goes with it
-pub more : (i n d : ℕ) → n < 10 ^ i → d < 10 → 10 * n + d < 10 ^ (i + 1)
-more i n d h k = rw (add-one i) (omega (arith, pow-succ' 10 i))
-
-pub small : (i n : ℕ) → n < 10 ^ i → i ≤ 5 → n < 100000
-small i n h k = omega (arith, pow-le-pow-right {n = 10} (omega arith) k)
-
--- ---- the number of digits
-
-pub too-few : (cs : List ℕ) → length cs < 1 → unsigned cs ≡ Number.NoForm
-unfolding unsigned both between
-too-few cs h = rw (lt-leb 1 (length cs) h)
-
-pub too-many : (cs : List ℕ) → 5 < length cs → unsigned cs ≡ Number.NoForm
-unfolding unsigned both between
-too-many cs h = rw (le-leb 1 (length cs) (omega arith), lt-leb (length cs) 5 h)
-
-pub no-digit : (cs : List ℕ) → 1 ≤ length cs → length cs ≤ 5 → areDigits cs ≡ false → unsigned cs ≡ Number.NoForm
-unfolding unsigned both between
-no-digit cs l h e = rw (le-leb 1 (length cs) l, le-leb (length cs) 5 h, e)
-
-pub right : (cs : List ℕ) → 1 ≤ length cs → length cs ≤ 5 → areDigits cs ≡ true → unsigned cs ≡ Number.Value (pos (readOn 0 cs))
-unfolding unsigned both between
-right cs l h e = rw (le-leb 1 (length cs) l, le-leb (length cs) 5 h, e)
-
--- after a minus or not
-pub no-form : (minus : Bool) (cs : List ℕ) → unsigned cs ≡ Number.NoForm → Number.NoForm ≡ cond minus (negated (unsigned cs)) (unsigned cs)
-unfolding negated
-no-form true cs e = rw e
-no-form false cs e = sym e
-
--- a small number, below 0 or not, as 32 bits hold it
-pub minus-fits : (n : ℕ) → n < 100000 → SFits w32 (pos 0 -ℤ toZ w32 n)
-minus-fits n h = rw (toZ-pos w32 {n = n} (omega arith), +ℤ-idl (negℤ (pos n))) (go n h)
-  where
-    go : (n : ℕ) → n < 100000 → SFits w32 (negℤ (pos n))
-    go zero h = record { sfits = omega arith }
-    go (suc n) h = record { sfits = omega arith }
-
-pub minus-is : (n : ℕ) → n < 100000 → toZ w32 (ofZ w32 (pos 0 -ℤ toZ w32 n)) ≡ negℤ (pos n)
-minus-is n h = toZ-ofZ (minus-fits n h) ∙ rw (toZ-pos w32 {n = n} (omega arith), +ℤ-idl (negℤ (pos n)))
-
-pub negative : (cs : List ℕ) (n : ℕ) → n < 100000 → unsigned cs ≡ Number.Value (pos n) → Number.Value (toZ w32 (ofZ w32 (pos 0 -ℤ toZ w32 n))) ≡ negated (unsigned cs)
-unfolding negated
-negative cs n h e = rw (e, minus-is n h)
-
-pub positive : (cs : List ℕ) (n : ℕ) → n < 100000 → unsigned cs ≡ Number.Value (pos n) → Number.Value (toZ w32 n) ≡ unsigned cs
-positive cs n h e = rw (e, toZ-pos w32 {n = n} (omega arith))
-
--- the part of a line from a place on
-pub part : (n : ℕ) (cs : List ℕ) → take (length cs - n) (drop n cs) ≡ drop n cs
-part n cs = take-all (length cs - n) (drop n cs) (omega (arith, length-drop n cs))
-
--- ---- values
-
--- a byte that is not 0 stands in the list
-pub stands : (cs : List ℕ) (i : ℕ) → 0 < getD cs i 0 → i < length cs
-stands [] i h = absurd (omega arith)
-stands (x ∷ xs) zero h = omega arith
-stands (x ∷ xs) (suc i) h = let r = stands xs i h in omega arith
-
--- H, L and a number, of a tick or a return
-pub over : (returns : Bool) (cs : List ℕ) → isOnly 72 cs ≡ true → Asked.Of (cond returns (Event.Return Reading.Over) (Event.Tick Reading.Over)) ≡ cond returns (returnOf cs) (tickOf cs)
-unfolding returnOf tickOf
-over true cs e = rw e
-over false cs e = rw e
-
-pub under : (returns : Bool) (cs : List ℕ) → isOnly 72 cs ≡ false → isOnly 76 cs ≡ true → Asked.Of (cond returns (Event.Return Reading.Under) (Event.Tick Reading.Under)) ≡ cond returns (returnOf cs) (tickOf cs)
-unfolding returnOf tickOf
-under true cs e f = rw (e, f)
-under false cs e f = rw (e, f)
-
-pub no-number : (returns : Bool) (cs : List ℕ) → isOnly 72 cs ≡ false → isOnly 76 cs ≡ false → numberOf cs ≡ Number.NoForm → Asked.NoForm ≡ cond returns (returnOf cs) (tickOf cs)
-unfolding returnOf tickOf return tick
-no-number true cs e f g = rw (e, f, g)
-no-number false cs e f g = rw (e, f, g)
-
-pub number : (returns : Bool) (cs : List ℕ) (v : ℤ) → isOnly 72 cs ≡ false → isOnly 76 cs ≡ false → numberOf cs ≡ Number.Value v → Asked.Of (cond returns (Event.Return (Reading.Value v)) (Event.Tick (Reading.Value v))) ≡ cond returns (returnOf cs) (tickOf cs)
-unfolding returnOf tickOf return tick
-number true cs v e f g = rw (e, f, g)
-number false cs v e f g = rw (e, f, g)
+use Rattle.controller.specs.declared.State.{State}
+use Rattle.decimal.specs.Text.{text, behind, lineOf, Put, put, putOf}
+use Rattle.decimal.proofs.Laws.{length-text, put-fits}
+use Rattle.key.specs.Line.{askedBy}
+use Rattle.key.specs.declared.Asked.{Asked}
+use Rattle.line.specs.declared.Between.{Between}
+use Rattle.line.specs.Sheet.{creditLines}
+use Rattle.line.specs.Part.{Sheet, ended, byteOf, partOf, After, after, leaving, startOf, tookLine, tookByte}
+use Rattle.line.specs.Text.{eight, refusal, Answered, answered, showing, asked, answeredTo}
 
 -- ---- text
 
--- a digit, or the digits before the last one, and it
-pub one-digit : (w n : ℕ) → 1 ≤ w → n < 10 → decimal w n ≡ (48 + n) ∷ []
-unfolding decimal
-one-digit zero n h l = absurd (omega arith)
-one-digit (suc w) n h l = rw (lt-ltb n 10 l)
+-- a number has at most 20 bytes, and one behind it
+pub length-line : (xs : List ℤ) → length (lineOf xs) ≤ 21 * length xs
+unfolding lineOf
+length-line [] = omega arith
+length-line (x ∷ xs) = omega (arith, length-append (text x) (behind xs ∷ lineOf xs), length-text x, length-line xs)
 
-pub more-digits : (w n : ℕ) → 1 ≤ w → 10 ≤ n → decimal w n ≡ decimal (w - 1) (n / 10) ++ ((48 + n % 10) ∷ [])
-unfolding decimal
-more-digits zero n h l = absurd (omega arith)
-more-digits (suc w) n h l = let e : suc w - 1 ≡ w = omega arith in rw (e, le-ltb n 10 l)
+-- a line that has room stands where it is due
+pub line-put : {out′ : List ℕ} {r : ℕ} (out : List ℕ) (at : ℕ) {xs : List ℤ} (ys : List ℤ) → at + 21 * length ys ≤ length out → xs ≡ ys → put out′ r ≡ putOf out at xs
+    → (out′ ≡ sets out at (lineOf ys)) × (r ≡ at + length (lineOf ys))
+line-put out at ys h e f =
+    let g = f ∙ ap (putOf out at) e ∙ put-fits out at ys h in (ap (λ (p : Put). p .bytes) g, ap (λ (p : Put). p .end) g)
 
--- a byte that is stored at a place stands after what is before the place
-pub byte-at : (out : List ℕ) (at x : ℕ) → at < length out → take (at + 1) (set out at x) ≡ take at out ++ (x ∷ [])
-byte-at out at x h = rw (add-one at) (take-suc-set out at x h)
+-- a number that is cast to one of 64 bits
+pub small : (n : ℕ) → n < 2 ^ 63 → toZ w64 n ≡ pos n
+small n h = toZ-pos w64 h
 
--- and text after it
-pub after-byte : (out : List ℕ) (at x : ℕ) (ds : List ℕ) → at < length out → take (at + 1) (set out at x) ++ ds ≡ take at out ++ (x ∷ ds)
-after-byte out at x ds h = rw (byte-at out at x h) (append-assoc (take at out) (x ∷ []) ds)
+-- the first of three numbers, as many as a list of at most three has, are the list's
+pub first-ones : (ns : List ℕ) → length ns ≤ 3 → take (length ns) (pos (getD ns 0 0) ∷ pos (getD ns 1 0) ∷ pos (getD ns 2 0) ∷ []) ≡ map pos ns
+first-ones [] h = refl
+first-ones (a ∷ []) h = refl
+first-ones (a ∷ b ∷ []) h = refl
+first-ones (a ∷ b ∷ c ∷ []) h = refl
+first-ones (a ∷ b ∷ c ∷ d ∷ ns) h = absurd (omega arith)
 
-pub between-bytes : (out : List ℕ) (at x : ℕ) (ds es : List ℕ) → at < length out → (take (at + 1) (set out at x) ++ ds) ++ es ≡ take at out ++ (x ∷ (ds ++ es))
-between-bytes out at x ds es h = rw (after-byte out at x ds h) (append-assoc (take at out) (x ∷ ds) es)
+-- a refusal has at most three numbers
+pub length-refusal : (f : Checked) → length (bankNumbers f) ≤ 3
+unfolding bankNumbers
+length-refusal Accepted = omega arith
+length-refusal Short = omega arith
+length-refusal (Setting o) = omega arith
+length-refusal (Pair i) = omega arith
+length-refusal (Body p k) = omega arith
 
--- the text of a number of 16 bits that is not below 0
-pub from-0 : (x : ℤ) → SFits w16 x → leZ (pos 0) x ≡ true → (T (nonNeg x) × Fits w32 (natAbs x)) × (text x ≡ decimal 10 (natAbs x))
-unfolding text
-from-0 (pos n) f e = let l : n < 32768 = f .sfits in ((tt, omega arith), refl)
-from-0 (negsuc n) f e = absurd (false≢true e)
+-- a line's answer is eight numbers
+pub length-answered : (b d : List ℕ) (s : State) (line : List ℕ) → length (answeredTo b d s line .printed) ≤ 168
+unfolding answeredTo asked showing eight
+length-answered b d s line = go (askedBy line)
+  where
+    fit : (n : ℕ) (s : State) → length (lineOf (eight b n s)) ≤ 168
+    fit n s = length-line (eight b n s)
 
--- and of one that is
-pub below-0 : (x : ℤ) → SFits w16 x → leZ (pos 0) x ≡ false → (65535 - ofZ w16 x < 32768) × (text x ≡ 45 ∷ decimal 10 (65535 - ofZ w16 x + 1))
-unfolding text
-below-0 (pos n) f e = let l = leb-false 0 n e in absurd (omega arith)
-below-0 (negsuc n) f e =
-    let l : n < 32768 = f .sfits in
-    let k : 65535 - ofZ w16 (negsuc n) ≡ n = omega arith in
-    (omega arith, rw k)
+    go : (a : Asked) → length (asked b d s a .printed) ≤ 168
+    go Asked.NoForm = fit 99 s
+    go (Asked.Of e) = let a = eventOf b d s e in fit (getD (numbersOf (a .answer)) 0 0) (a .state)
+
+-- ---- credits
+
+-- the lines of the steps from a place on: that of the first, and those behind it
+credits-from : (cs : List ℕ) (k : ℕ) → k < length cs → creditLines (k + 1) (drop k cs) ≡ creditLines (k + 1) (getD cs k 0 ∷ []) ++ creditLines (k + 1 + 1) (drop (k + 1) cs)
+unfolding creditLines
+credits-from cs k h = rw (drop-cons cs k 0 h, add-one k, append-nil)
+
+pub credits-turn : (out : List ℕ) (at k : ℕ) (cs : List ℕ) {b : List ℕ} {r : ℕ} → k < length cs
+    → b ≡ sets out at (creditLines (k + 1) (getD cs k 0 ∷ [])) → r ≡ at + length (creditLines (k + 1) (getD cs k 0 ∷ []))
+    → (sets b r (creditLines (k + 1 + 1) (drop (k + 1) cs)) ≡ sets out at (creditLines (k + 1) (drop k cs)))
+    × (r + length (creditLines (k + 1 + 1) (drop (k + 1) cs)) ≡ at + length (creditLines (k + 1) (drop k cs)))
+credits-turn out at k cs h e f =
+    let one = creditLines (k + 1) (getD cs k 0 ∷ []) in
+    let rest = creditLines (k + 1 + 1) (drop (k + 1) cs) in
+    let g = credits-from cs k h in (
+      (λ i. sets (e i) (f i) rest) ∙ sets-append one rest out at ∙ sym (ap (sets out at) g),
+      omega (arith, length-append one rest, ap length g),
+    )
+
+-- a line of credit is two numbers
+length-credit : (k c : ℕ) → length (cond (eqb c 0) [] (lineOf (pos k ∷ pos c ∷ []))) ≤ 42
+length-credit k c = go (eqb c 0)
+  where
+    go : (t : Bool) → length (cond t [] (lineOf (pos k ∷ pos c ∷ []))) ≤ 42
+    go true = omega arith
+    go false = length-line (pos k ∷ pos c ∷ [])
+
+pub length-credits : (k : ℕ) (cs : List ℕ) → length (creditLines k cs) ≤ 42 * length cs
+unfolding creditLines
+length-credits k [] = omega arith
+length-credits k (c ∷ cs) =
+    let l = length-append (cond (eqb c 0) [] (lineOf (pos k ∷ pos c ∷ []))) (creditLines (k + 1) cs) in
+    omega (arith, length-credit k c, length-credits (k + 1) cs)
+
+-- ---- a line within a call
+
+-- a line that asks for an event: what the event leaves, the number of its answer, and the seven of its state
+pub event-answered : (b d : List ℕ) (s : State) (e : Event) (o : Made) {n : ℕ} → o ≡ eventOf b d s e → n ≡ getD (numbersOf (o .answer)) 0 0
+    → answered (o .state) (o .store) (lineOf (eight b n (o .state))) ≡ asked b d s (Asked.Of e)
+unfolding asked showing
+event-answered b d s e o f g = (λ i. answered (o .state) (o .store) (lineOf (eight b (g i) (o .state)))) ∙ ap (showing b) f
+
+-- what is kept of a line that has room for 16 bytes
+pub kept-line : (k : ℕ) (line : List ℕ) {n : ℕ} → length line ≡ 16 → n ≡ min k 16 → take n line ≡ take k line
+kept-line k line {n} l e = go (leb k 16) refl
+  where
+    go : (t : Bool) → leb k 16 ≡ t → take n line ≡ take k line
+    go true h = let g = leb-true k 16 h in let f : n ≡ k = omega arith in ap (λ (m : ℕ). take m line) f
+    go false h = let g = leb-false k 16 h in take-all n line (omega arith) ∙ sym (take-all k line (omega arith))
+
+-- a line that was answered: its text stands where it is due, and no line has begun
+pub line-taken : (b : List ℕ) (x : Between) (d out : List ℕ) (at : ℕ) (a : Answered) {ask : Asked} {out′ : List ℕ} {end : ℕ} → a ≡ asked b d (x .state) ask
+    → ask ≡ askedBy (take (x .kept) (x .line)) → (out′ ≡ sets out at (a .printed)) × (end ≡ at + length (a .printed))
+    → _≡_ {A = After} (record { state = a .state; store = a .store; line = []; out = out′; end = end }) (tookLine b x d out at)
+unfolding tookLine answeredTo
+line-taken b x d out at a e f g =
+    (λ i. record { state = a .state; store = a .store; line = []; out = g .0 i; end = g .1 i })
+    ∙ ap (λ (y : Answered). record { state = y .state; store = y .store; line = []; out = sets out at (y .printed); end = at + length (y .printed) })
+    (e ∙ ap (asked b d (x .state)) f)
+
+-- a byte more of a line that has room for 16, and of one that has none
+pub kept-more : (k : ℕ) (line : List ℕ) (c : ℕ) → length line ≡ 16 → k < 16 → take (k + 1) (set line k c) ≡ take 16 (take k line ++ (c ∷ []))
+kept-more k line c l h =
+    let e = length-append (take k line) (c ∷ []) in
+    rw (add-one, take-suc-set line k c (omega arith)) (sym (take-all 16 (take k line ++ (c ∷ [])) (omega (arith, length-take-le k line (omega arith)))))
+
+pub kept-full : (k : ℕ) (line : List ℕ) (c : ℕ) → length line ≡ 16 → 16 ≤ k → take k line ≡ take 16 (take k line ++ (c ∷ []))
+kept-full k line c l h = rw (take-all k line (omega arith)) (sym (take-at line (c ∷ []) 16 l))
+
+-- ---- a call and the sheet that it stands for
+
+module _ (b : List ℕ) (x : Between) (d out : List ℕ) (at : ℕ) (y : Sheet) (out₀ : List ℕ) (e : after x d out at ≡ leaving y out₀) where
+  -- a line, and a byte, of the one are those of the other
+  pub line-leaves : {r : After} → r ≡ tookLine b x d out at → r ≡ leaving (ended b y) out₀
+  unfolding tookLine ended
+  line-leaves h =
+      let a = answeredTo b (y .store) (y .state) (y .line) in
+      let t = y .text in
+      let text = ap (λ (n : ℕ). sets (sets out₀ 0 t) n (a .printed)) (sym (zero-add (length t))) ∙ sets-append t (a .printed) out₀ 0 in
+      h
+      ∙ ap (λ (u : After). let v = answeredTo b (u .store) (u .state) (u .line) in
+      record { state = v .state; store = v .store; line = []; out = sets (u .out) (u .end) (v .printed); end = u .end + length (v .printed) }) e
+      ∙ (λ i. record { state = a .state; store = a .store; line = []; out = text i; end = sym (length-append t (a .printed)) i })
+
+  pub byte-leaves : (c : ℕ) {r : After} → r ≡ tookByte b x d out at c → r ≡ leaving (byteOf b y c) out₀
+  unfolding tookByte byteOf
+  byte-leaves c {r} f = go (eqb c 10) refl
+    where
+      go : (t : Bool) → eqb c 10 ≡ t → r ≡ leaving (byteOf b y c) out₀
+      go true h = rw h (line-leaves (rw h at f))
+      go false h = rw h (rw h at f ∙ ap (λ (u : After). record { state = u .state; store = u .store; line = take 16 (u .line ++ (c ∷ [])); out = u .out; end = u .end }) e)
+
+-- ---- a part, byte by byte
+
+pub part-append : (b : List ℕ) (x : Sheet) (cs ds : List ℕ) → partOf b x (cs ++ ds) ≡ partOf b (partOf b x cs) ds
+unfolding partOf
+part-append b x [] ds = refl
+part-append b x (c ∷ cs) ds = part-append b (byteOf b x c) cs ds
+
+pub part-more : (b : List ℕ) (x : Sheet) (cs : List ℕ) (i : ℕ) → i < length cs → partOf b x (take (i + 1) cs) ≡ byteOf b (partOf b x (take i cs)) (getD cs i 0)
+unfolding partOf
+part-more b x cs i h = rw (add-one, take-suc cs i 0 h) (part-append b x (take i cs) (getD cs i 0 ∷ []))
+
+-- the end of a line, and so a byte, adds at most 168 bytes
+pub length-ended : (b : List ℕ) (x : Sheet) → length (ended b x .text) ≤ length (x .text) + 168
+unfolding ended
+length-ended b x =
+    let l = length-answered b (x .store) (x .state) (x .line) in
+    omega (arith, length-append (x .text) (answeredTo b (x .store) (x .state) (x .line) .printed))
+
+pub length-byte : (b : List ℕ) (x : Sheet) (c : ℕ) → length (byteOf b x c .text) ≤ length (x .text) + 168
+unfolding byteOf
+length-byte b x c = go (eqb c 10) refl
+  where
+    go : (t : Bool) → eqb c 10 ≡ t → length (byteOf b x c .text) ≤ length (x .text) + 168
+    go true h = rw h (length-ended b x)
+    go false h = rw h (omega arith)
+
+-- ---- the beginning
+
+pub begins : (r : Between) (b d out : List ℕ) {m : Made} (t : List ℕ) {out′ : List ℕ} {end : ℕ} → makeOf b d ≡ m → unless (foundIn b) (λ f. cond (leb 168 (length out)) (refusal f) []) [] ≡ t
+    → (r .state ≡ m .state) × (r .kept ≡ 0) → (out′ ≡ sets out 0 t) × (end ≡ length t) → after r (m .store) out′ end ≡ startOf b d out
+unfolding startOf
+begins r b d out {m} t e f g h =
+    (λ i. record { state = g .0 i; store = m .store; line = take (g .1 i) (r .line); out = h .0 i; end = h .1 i })
+    ∙ sym (λ i. record { state = e i .state; store = e i .store; line = []; out = sets out 0 (f i); end = length (f i) })

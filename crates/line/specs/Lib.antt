@@ -1,3 +1,4 @@
--- One line of the program `sheet`, and what it prints.
-pub mod Line
+-- The lines of `sheet`, and what they print.
 pub mod Text
+pub mod Sheet
+pub mod Part

@@ -1,129 +1,73 @@
-// The text of numbers, written at a place of a buffer. Each function gives the place where its text ends.
+// The text of an answer, of a refusal and of the credits.
 ghost use mathlib.Core.Path.{_≡_};
-ghost use mathlib.Core.List.{List, [], _∷_, _++_};
-ghost use Prim.Native.Nat.{_+_, _≤_, _<_};
-ghost use lib.IntN.{ℤ, pos};
-ghost use lib.ListN.{length, take};
-ghost use Rattle.line.specs.Text.{decimal, text, rest, lineOf, eight};
+ghost use mathlib.Core.Bool.{cond};
+ghost use mathlib.Core.List.{[], _∷_};
+ghost use Prim.Native.Nat.{_+_, _≤_};
+ghost use lib.Dec.{leb};
+ghost use lib.ListN.{length};
+ghost use lib.Seq.{sets};
+ghost use Rattle.decimal.specs.Text.{lineOf};
+ghost use Rattle.line.specs.Text.{eight, refusal};
+ghost use Rattle.line.specs.Sheet.{creditLines};
 use controller::State;
-use program::Position;
+use decimal::put_line;
+use setting::Checked;
 
-// The decimal digits of a number, at most w of them.
-fn put_digits(out: &mut [u8], at: usize, w: usize, n: u32) -> usize
-    requires { ⌜ at + w ≤ length (now out) ⌝ }
-    ensures { λ r. ⌜ (take r (now (out .exit)) ≡ take at (now (out .entry)) ++ decimal w n) × (r ≤ at + w) ⌝ }
-{
-    if w == 0 {
-        return at;
-    }
-    if n < 10 {
-        out[at] = b'0' + n as u8;
-        return at + 1;
-    }
-    let last = put_digits(out, at, w - 1, n / 10);
-    out[last] = b'0' + (n % 10) as u8;
-    last + 1
-}
-
-// A number, with a minus before one that is below 0.
-fn put_signed(out: &mut [u8], at: usize, x: i16) -> usize
-    requires { ⌜ at + 11 ≤ length (now out) ⌝ }
-    ensures { λ r. ⌜ (take r (now (out .exit)) ≡ take at (now (out .entry)) ++ text x) × (r ≤ at + 11) ⌝ }
-{
-    if x >= 0 {
-        return put_digits(out, at, 10, x as u32);
-    }
-    out[at] = b'-';
-    put_digits(out, at + 1, 10, (!x) as u32 + 1)
-}
-
-// The first number of a line; what follows is the rest of the line.
-fn put_first(out: &mut [u8], n: u32) -> usize
-    requires { ⌜ 10 ≤ length (now out) ⌝ }
-    ensures { λ r. ⌜ ((xs : List ℤ) → take r (now (out .exit)) ++ rest xs ≡ lineOf (pos n ∷ xs)) × (r ≤ 10) ⌝ }
-{
-    put_digits(out, 0, 10, n)
-}
-
-// The next number, after a space.
-fn put_next(out: &mut [u8], at: usize, n: u32) -> usize
-    requires { ⌜ at + 11 ≤ length (now out) ⌝ }
-    ensures { λ r. ⌜ ((xs : List ℤ) → take r (now (out .exit)) ++ rest xs ≡ take at (now (out .entry)) ++ rest (pos n ∷ xs)) × (r ≤ at + 11) ⌝ }
-{
-    out[at] = b' ';
-    put_digits(out, at + 1, 10, n)
-}
-
-// The newline.
-fn put_end(out: &mut [u8], at: usize) -> usize
-    requires { ⌜ at < length (now out) ⌝ }
-    ensures { λ r. ⌜ (take r (now (out .exit)) ≡ take at (now (out .entry)) ++ rest []) × (r ≡ at + 1) ⌝ }
-{
-    out[at] = b'\n';
-    at + 1
-}
-
-// The last number, after a space, and the newline.
-fn put_last(out: &mut [u8], at: usize, x: i16) -> usize
-    requires { ⌜ at + 13 ≤ length (now out) ⌝ }
-    ensures { λ r. ⌜ (take r (now (out .exit)) ≡ take at (now (out .entry)) ++ rest (x ∷ [])) × (r ≤ at + 13) ⌝ }
-{
-    out[at] = b' ';
-    let end = put_signed(out, at + 1, x);
-    put_end(out, end)
-}
-
-// A line of one number.
-pub fn put_one(out: &mut [u8], a: u32) -> usize
-    requires { ⌜ 96 ≤ length (now out) ⌝ }
-    ensures { λ r. ⌜ (take r (now (out .exit)) ≡ lineOf (pos a ∷ [])) × (r ≤ 96) ⌝ }
-{
-    let first = put_first(out, a);
-    put_end(out, first)
-}
-
-// Of two.
-pub fn put_two(out: &mut [u8], a: u32, b: u32) -> usize
-    requires { ⌜ 96 ≤ length (now out) ⌝ }
-    ensures { λ r. ⌜ (take r (now (out .exit)) ≡ lineOf (pos a ∷ pos b ∷ [])) × (r ≤ 96) ⌝ }
-{
-    let first = put_first(out, a);
-    let second = put_next(out, first, b);
-    put_end(out, second)
-}
-
-// Of three.
-pub fn put_three(out: &mut [u8], a: u32, b: u32, c: u32) -> usize
-    requires { ⌜ 96 ≤ length (now out) ⌝ }
-    ensures { λ r. ⌜ (take r (now (out .exit)) ≡ lineOf (pos a ∷ pos b ∷ pos c ∷ [])) × (r ≤ 96) ⌝ }
-{
-    let first = put_first(out, a);
-    let second = put_next(out, first, b);
-    let third = put_next(out, second, c);
-    put_end(out, third)
-}
-
-// Mode, p, k, r.
-fn put_place(out: &mut [u8], at: usize, p: Position) -> usize
-    requires { ⌜ at + 44 ≤ length (now out) ⌝ }
-    ensures { λ r. ⌜ ((xs : List ℤ) → take r (now (out .exit)) ++ rest xs ≡ take at (now (out .entry)) ++ rest (pos (p .mode) ∷ pos (p .pattern) ∷ pos (p .step) ∷ pos (p .pass) ∷ xs)) × (r ≤ at + 44) ⌝ }
-{
-    let mode = put_next(out, at, p.mode as u32);
-    let pattern = put_next(out, mode, p.pattern as u32);
-    let step = put_next(out, pattern, p.step as u32);
-    put_next(out, step, p.pass as u32)
-}
-
-// Answer, mode, p, k, r, e, w, set value.
-pub fn put_eight(bank: &[u8], answer: u8, s: State, out: &mut [u8]) -> usize
-    requires { ⌜ 96 ≤ length (now out) ⌝ }
-    ensures { λ r. ⌜ (take r (now (out .exit)) ≡ lineOf (eight (now (bank .entry)) answer s)) × (r ≤ 96) ⌝ }
+// Answer, mode, p, k, r, e, w, set value, at a place of a buffer that has room for them. Gives the place where they end.
+pub fn put_eight(bank: &[u8], answer: u8, s: State, out: &mut [u8], at: usize) -> usize
+    requires { ⌜ at + 168 ≤ length (now out) ⌝ }
+    ensures { λ r. ⌜ (now (out .exit) ≡ sets (now (out .entry)) at (lineOf (eight (now (bank .entry)) answer s))) × (r ≡ at + length (lineOf (eight (now (bank .entry)) answer s))) ⌝ }
 {
     let p = s.position;
-    let set_value = program::set_value(bank::step_of(bank, p.pattern, p.step), p);
-    let first = put_first(out, answer as u32);
-    let place = put_place(out, first, p);
-    let elapsed = put_next(out, place, p.elapsed);
-    let waited = put_next(out, elapsed, p.waited);
-    put_last(out, waited, set_value)
+    let step = bank::place_of(bank, p.pattern, p.step).step;
+    let numbers = [
+        answer as i64,
+        p.mode as i64,
+        p.pattern as i64,
+        p.step as i64,
+        p.pass as i64,
+        p.elapsed as i64,
+        p.waited as i64,
+        program::set_value(step, p) as i64,
+    ];
+    put_line(out, at, &numbers)
+}
+
+// The numbers of a bank's refusal, at the front of a buffer that has room for eight; in any other nothing. Gives the place where they end.
+pub fn put_refusal(found: Checked, out: &mut [u8]) -> usize
+    ensures { λ r. ⌜ (now (out .exit) ≡ sets (now (out .entry)) 0 (cond (leb 168 (length (now (out .entry)))) (refusal found) [])) × (r ≡ length (cond (leb 168 (length (now (out .entry)))) (refusal found) [])) ⌝ }
+{
+    if out.len() < 168 {
+        return 0;
+    }
+    let n = answer::of_checked(found);
+    let numbers = [n.number as i64, n.first as i64, n.second as i64];
+    let count = n.count;
+    put_line(out, 0, &numbers[..count])
+}
+
+// The line `k seconds` of a step whose credit is not 0, at a place of a buffer that has room for it. Gives the place where it ends.
+fn put_credit(out: &mut [u8], at: usize, k: usize, credit: u32) -> usize
+    requires { ⌜ (at + 42 ≤ length (now out)) × (k ≤ 99) ⌝ }
+    ensures { λ r. ⌜ (now (out .exit) ≡ sets (now (out .entry)) at (creditLines k (credit ∷ []))) × (r ≡ at + length (creditLines k (credit ∷ []))) ⌝ }
+{
+    if credit == 0 {
+        return at;
+    }
+    put_line(out, at, &[k as i64, credit as i64])
+}
+
+// The lines of all steps, at the front of a buffer that has room for 99 of them.
+pub fn put_credits(s: State, out: &mut [u8]) -> usize
+    requires { ⌜ 4158 ≤ length (now out) ⌝ }
+    ensures { λ r. ⌜ (now (out .exit) ≡ sets (now (out .entry)) 0 (creditLines 1 (s .credits))) × (r ≡ length (creditLines 1 (s .credits))) ⌝ }
+{
+    let credits = s.credits;
+    let mut at: usize = 0;
+    let mut k: usize = 0;
+    while k < 99 {
+        at = put_credit(out, at, k + 1, credits[k]);
+        k += 1;
+    }
+    at
 }

@@ -1,18 +1,19 @@
 -- The laws of the measured value that callers cite.
 use mathlib.Core.Path.{_≡_, refl, ap, _∙_, subst}
-use Prim.Native.Nat.{ℕ, _+_, _*_, _≤_, _<_}
+use Prim.Native.Nat.{ℕ, _*_, _<_}
 use mathlib.Core.Bool.{Bool, true, false, cond}
 use lib.Dec.{lit≤}
 use lib.IntN.{ℤ, pos}
-use lib.Ieee.{Float, fin, binary64, up, down, lt, ofInt}
+use lib.Ieee.{Float, nan, inf, fin, binary64, up, down, lt, ofInt}
 use lib.Ieee.Fits.{down-pos}
-use Rattle.measure.specs.Filter.{lowest, highest, kept, lagged, afterOf, firstOf, soundOf, outsideOf, halfUp, signed, rounded, nearest, wholeOf}
+use Rattle.measure.specs.Filter.{lowest, highest, kept, lagged, afterOf, firstOf, within, soundOf, outsideOf, halfUp, rounded, nearest, wholeOf}
+use Rattle.measure.specs.Bound.{end, Close, CloseTo, Near}
 use Rattle.measure.specs.declared.Measured.{Measured}
 use Rattle.measure.specs.declared.Reading.{Reading}
 use Rattle.measure.specs.declared.Whole.{Whole}
 use Rattle.measure.proofs.Number.{Number, lagged-number}
 use Rattle.measure.proofs.Order as order
-use Rattle.measure.proofs.Range.{end, InRange, inside, within-true, within-finite, of-within, in-range, not-outside, exact, after-within}
+use Rattle.measure.proofs.Range.{InRange, inside, within-true, within-finite, of-within, in-range, not-outside, exact, after-within}
 use Rattle.measure.proofs.Nearest.{halfUp-near, halfUp-range, nearest-range, rounded-exact}
 
 -- ---- over and under replace the measured value, and a first reading is one with no reading before it
@@ -48,16 +49,9 @@ lag-number y v f k h g = lagged-number y (ofInt binary64 v) f k (within-finite y
 pub kept-clamp : (x : Float) → Number x → kept x ≡ cond (lt x lowest) lowest (cond (lt highest x) highest x)
 kept-clamp = order.kept-clamp
 
--- ---- the whole value of y = ±a / d, sound, is ±w with |2 * (w * d - a)| ≤ d, at a half the w further from zero, and w is in range too
-pub record Close (s : Bool) (a d : ℕ) (x : Whole) : Type 0 where
-  pub w : ℕ
-  pub is : x ≡ Whole.Value (signed s w)
-  pub not-over : 2 * (w * d) ≤ 2 * a + d
-  pub not-under : 2 * a < 2 * (w * d) + d
-  pub in-range : w ≤ end s
-
-pub whole-close : (s : Bool) (m : ℕ) (e : ℤ) → soundOf (Measured.Value (fin s m e)) ≡ true → Close s (m * up e) (down e) (wholeOf (Measured.Value (fin s m e)))
-unfolding soundOf wholeOf nearest
+-- ---- the whole value is the nearest
+whole-close : (s : Bool) (m : ℕ) (e : ℤ) → within (fin s m e) ≡ true → Close s (m * up e) (down e) (Whole.Value (nearest (fin s m e)))
+unfolding nearest
 whole-close s m e h =
     let p = halfUp-near (m * up e) (down e) (down-pos e) in
     record {
@@ -67,6 +61,18 @@ whole-close s m e h =
       not-under = p .1;
       in-range = halfUp-range (m * up e) (down e) (end s) (down-pos e) (inside (fin s m e) h);
     }
+
+pub whole-near : (m : Measured) → Near m (wholeOf m)
+unfolding wholeOf
+whole-near Measured.NoReading = refl
+whole-near Measured.Over = refl
+whole-near Measured.Under = refl
+whole-near (Measured.Value y) = close y
+  where
+    close : (y : Float) → CloseTo y (Whole.Value (nearest y))
+    close nan = tt
+    close (inf s) = tt
+    close (fin s m e) = λ h. whole-close s m e h
 
 -- ---- a measured whole value is a temperature
 -- the number of a whole value, 0 where there is none

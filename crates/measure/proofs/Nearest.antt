@@ -15,7 +15,8 @@ use lib.Ieee.Exact.{HasValue, round-exact}
 use lib.Ieee.Nearest.{div-same}
 use lib.Ieee.Positive.{num, den}
 use Rattle.measure.specs.Filter.{halfUp, signed, rounded, nearest, within}
-use Rattle.measure.proofs.Range.{end, Within, InRange, inside, within-true, negative, size}
+use Rattle.measure.proofs.Range.{Within, InRange, inside, within-true, negative, size}
+use Rattle.measure.specs.Bound.{end}
 
 -- ---- how near: 2 * (w * d) is at most d above 2 * a and less than d below it, so a half goes up
 pub halfUp-near : (a d : ℕ) → 0 < d → (2 * (halfUp a d * d) ≤ 2 * a + d) × (2 * a < 2 * (halfUp a d * d) + d)

@@ -15,15 +15,12 @@ use lib.Ieee.Scale.{finite}
 use mir.Syntax.{Width}
 use mir.Val.{SFits, hbits}
 use Rattle.measure.specs.Filter.{lowest, highest, kept, lagged, valueAfter, within, outsideOf}
+use Rattle.measure.specs.Bound.{end}
 use Rattle.measure.specs.declared.Measured.{Measured}
 use Rattle.measure.specs.declared.Reading.{Reading}
 use Rattle.measure.proofs.Order.{below-or-level, below-or-level-turned}
 
--- the end of the range at a sign, and that y is finite and within the two ends, in whole numbers: y is m * up e / down e
-abbrev pub end : Bool → ℕ
-end true = 19999
-end false = 29999
-
+-- y is finite and within the two ends, in whole numbers: y is m * up e / down e
 abbrev pub Within : Float → Type 0
 Within nan = ⊥
 Within (inf s) = ⊥

@@ -1,3 +1,3 @@
--- The definitions that the contracts of `measure` cite, and document 01's examples of them.
+-- The definitions that the contracts of `measure` cite.
 pub mod Filter
-pub mod Examples
+pub mod Bound

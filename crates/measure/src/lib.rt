@@ -3,6 +3,7 @@ ghost use mathlib.Core.Path.{_≡_};
 ghost use mathlib.Core.Bool.{true, false};
 ghost use lib.IntN.{pos};
 ghost use lib.Ieee.{fin, lt};
+ghost use Rattle.measure.specs.Bound.{Near};
 ghost use Rattle.measure.specs.Filter.{kept, lagged, within, rounded, nearest, firstOf, afterOf, wholeOf, soundOf, outsideOf};
 
 // The measured value: none read yet, past an end of the range, or the filtered value y.
@@ -122,9 +123,10 @@ fn round(y: f64) -> i16
     0
 }
 
-// The measured whole value.
+// The measured whole value: the whole number nearest to y, where there is one.
 pub fn whole_value(m: Measured) -> Whole
     ensures { λ r. ⌜ r ≡ wholeOf m ⌝ }
+    ensures { λ r. ⌜ Near m r ⌝ }
 {
     match m {
         Measured::NoReading => Whole::Nothing,

@@ -8,7 +8,7 @@ use native.Mathlib.Omega.{arith}
 use borrow.Author.Tests.{eqb-true, eqb-false}
 use lib.Dec.{eqb}
 use lib.IntN.{ℤ}
-use Rattle.bank.specs.declared.Settings.{Settings}
+use Rattle.setting.specs.declared.Settings.{Settings}
 use Rattle.bank.specs.declared.Step.{Step}
 use Rattle.measure.specs.declared.Whole.{Whole}
 use Rattle.program.specs.declared.Position.{Position}

@@ -6,7 +6,7 @@ use mathlib.Core.Logic.{⊎-elim}
 use native.Mathlib.Omega.{arith}
 use borrow.Author.Tests.{le-leb, leb-false, eq-eqb, eqb-true, eqb-false}
 use lib.Dec.{eqb, leb}
-use Rattle.bank.specs.declared.Settings.{Settings}
+use Rattle.setting.specs.declared.Settings.{Settings}
 use Rattle.bank.specs.declared.Step.{Step}
 use Rattle.measure.specs.declared.Whole.{Whole}
 use Rattle.program.specs.declared.Position.{Position}

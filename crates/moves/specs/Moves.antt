@@ -4,7 +4,7 @@ use Prim.Native.Nat.{ℕ, _+_, _-_}
 use mathlib.Core.Bool.{Bool, false, cond, not}
 use lib.Dec.{eqb, leb, ltb}
 use lib.IntN.{ℤ, pos}
-use Rattle.bank.specs.declared.Settings.{Settings}
+use Rattle.setting.specs.declared.Settings.{Settings}
 use Rattle.bank.specs.declared.Step.{Step}
 use Rattle.measure.specs.declared.Whole.{Whole}
 use Rattle.program.specs.declared.Position.{Position}

@@ -1,7 +1,6 @@
 // What the commands make of a position.
 ghost use mathlib.Core.Path.{_≡_};
 ghost use Rattle.moves.specs.Moves.{takesOf, stoppedOf, startBaseOf, startedOf, pausedOf, feedOf, backOf, plusOf, minusOf};
-use bank::Settings;
 use bank::Step;
 use measure::Whole;
 use program::Command;
@@ -14,6 +13,7 @@ use program::next;
 use program::seconds;
 use program::set_value;
 use program::wait_seconds;
+use setting::Settings;
 
 // Whether a mode takes a command.
 pub fn takes(c: Command, mode: u8) -> bool

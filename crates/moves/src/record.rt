@@ -4,19 +4,19 @@ ghost use mathlib.Core.Bool.{cond};
 ghost use Rattle.program.specs.Program.{secondsOf, endlessOf};
 ghost use Rattle.moves.specs.Moves.{nearOf, returnedOf, timesRight, cleared, readableOf};
 use crate::moves::stopped;
-use bank::Settings;
 use bank::Step;
 use measure::Whole;
 use program::Here;
 use program::Position;
 use program::distance;
 use program::endless;
-use program::in_range;
 use program::in_run;
 use program::is_zero;
 use program::seconds;
 use program::set_value;
 use program::wait_seconds;
+use setting::Settings;
+use setting::is_temperature;
 
 // Whether the measured whole value is within the width of a set value.
 fn near(width: u16, x: i16, v: Whole) -> bool
@@ -89,5 +89,5 @@ pub fn readable(set: Settings, h: Here, p: Position) -> bool
     } else {
         times_right(set, s, p)
     };
-    mode & (pattern & (step & (pass & (in_range(p.base) & times))))
+    mode & (pattern & (step & (pass & (is_temperature(p.base) & times))))
 }

@@ -1,11 +1,11 @@
 -- Credits of a machine with a record: each place's credit is the number of events counted there since the last start in what is left,
 -- held at a most.
 -- Assumes nothing.
-use mathlib.Core.Path.{_≡_, refl, sym, ap, _∙_, subst}
+use mathlib.Core.Path.{_≡_, refl, ap, _∙_}
 use mathlib.Core.Bool.{Bool, true, false, cond}
-use Prim.Native.Nat.{ℕ, zero, suc, _+_, _≤_, min}
+use Prim.Native.Nat.{ℕ, _+_, min}
 use native.Mathlib.Omega.{arith}
-use Rattle.outage.specs.Outage.{Machine, Left, none, _▹_, Kept, plain, back-on, back-off, replay}
+use Rattle.outage.specs.Outage.{Machine, Left, none, _▹_, plain, back-on, back-off, replay}
 use Rattle.outage.specs.Credit.{Counting, one, has-start, since, due}
 
 -- the laws of credits: only a start clears them, a counted event adds one, and a state that was never started counts nothing. They are

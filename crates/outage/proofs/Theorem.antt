@@ -3,7 +3,7 @@
 use mathlib.Core.Path.{_≡_, refl, sym, ap, _∙_, subst}
 use mathlib.Core.Bool.{Bool, true, false, cond}
 use mathlib.Core.List.{List, [], _∷_}
-use Rattle.outage.specs.Outage.{Listed, other, cut, back, Kept, plain, back-on, back-off, Left, none, _▹_, Machine, Power, on, off, Held, start, off-back, step, steps, replay1, saves1, replay, strike, Built, built-off, build1, build, whatIsLeft}
+use Rattle.outage.specs.Outage.{Listed, other, cut, back, plain, Left, none, _▹_, Machine, Power, on, off, Held, start, off-back, step, steps, replay, strike, Built, built-off, build1, build, whatIsLeft}
 
 -- the laws: a good state stays good, and a return that brings back the record of a good state is the return applied to that state
 pub record Lawful (M : Machine) : Type 1 where

@@ -2,7 +2,7 @@
 -- Assumes nothing.
 use mathlib.Core.Bool.{Bool, true, false, cond}
 use Prim.Native.Nat.{ℕ, _+_}
-use Rattle.outage.specs.Outage.{Machine, Left, none, _▹_, Kept, plain, back-on, back-off, replay}
+use Rattle.outage.specs.Outage.{Machine, Left, none, _▹_, plain, back-on, back-off, replay}
 
 -- which events of a machine are counted at a place, and which are accepted starts
 pub record Counting (M : Machine) : Type 0 where

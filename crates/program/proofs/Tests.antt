@@ -1,17 +1,12 @@
 -- Tests joined: what the code's `&` and `|` say is what the definitions' `both` and `either` say. Assumes nothing.
 use Prim.Native.Nat.{ℕ, _≤_, _<_}
 use mathlib.Core.Path.{_≡_, refl, sym, _∙_}
-use mathlib.Core.Bool.{Bool, true, false, false≢true, cond, _&&_, _||_}
+use mathlib.Core.Bool.{Bool, true, false, false≢true, cond, _||_}
 use mathlib.Core.Logic.{_⊎_, inl, inr}
 use borrow.Author.Tests.{le-leb, lt-leb, leb-true, leb-false}
 use lib.Dec.{leb}
-pub use Rattle.bank.proofs.Laws.{both-left, both-right}
+pub use Rattle.setting.proofs.Laws.{both-and, both-left, both-right}
 use Rattle.program.specs.Program.{both, either}
-
-pub both-and : (a b : Bool) → both a b ≡ (a && b)
-unfolding both
-both-and true b = refl
-both-and false b = refl
 
 pub either-or : (a b : Bool) → either a b ≡ (a || b)
 unfolding either

@@ -7,8 +7,8 @@ use lib.Dec.{eqb, leb, ltb}
 use lib.IntN.{ℤ, pos, natAbs, _+ℤ_, _-ℤ_}
 use lib.ListN.{getD}
 use lib.Signed.{leZ}
-unfoldable pub use Rattle.bank.specs.Range.{both, within, temperature}
-use Rattle.bank.specs.declared.Settings.{Settings}
+unfoldable pub use Rattle.setting.specs.Range.{both, within, temperature}
+use Rattle.setting.specs.declared.Settings.{Settings}
 use Rattle.bank.specs.declared.Step.{Step}
 use Rattle.measure.specs.declared.Whole.{Whole}
 use Rattle.program.specs.declared.Position.{Position}

@@ -13,7 +13,6 @@ pub use ramp::seconds;
 pub use ramp::set_value;
 pub use signal::signals as signals_at;
 pub use temps::distance;
-pub use temps::in_range;
 pub use temps::is_zero;
 pub use time::ended;
 pub use time::limit;

@@ -5,8 +5,8 @@ use crate::Position;
 use crate::Signals;
 use crate::ramp::in_run;
 use crate::time::entry;
-use bank::Settings;
 use bank::Step;
+use setting::Settings;
 
 // Whether a time signal of number j is on.
 fn on(set: Settings, p: Position, j: u8) -> bool

@@ -1,7 +1,7 @@
 // Temperatures, computed with as their distance from -32,768, which is a natural number.
 ghost use mathlib.Core.Path.{_≡_};
 ghost use Prim.Native.Nat.{_<_, _≤_};
-ghost use Rattle.program.specs.Program.{apart, toward, temperature, zeroZ};
+ghost use Rattle.program.specs.Program.{apart, toward, zeroZ};
 ghost use Rattle.program.specs.Raised.{raised, lowered};
 
 // How far a temperature is above -32,768.
@@ -39,13 +39,6 @@ pub fn moved(b: i16, target: i16, m: u32) -> i16
     } else {
         from_above(n - m)
     }
-}
-
-// Whether a temperature is in the temperature range.
-pub fn in_range(z: i16) -> bool
-    ensures { λ r. ⌜ r ≡ temperature z ⌝ }
-{
-    (-19999 <= z) & (z <= 29999)
 }
 
 // Whether a temperature is 0.

@@ -7,9 +7,9 @@ use crate::ramp::endless;
 use crate::ramp::seconds;
 use crate::ramp::set_value;
 use crate::temps::distance;
-use bank::Settings;
 use bank::Step;
 use measure::Whole;
+use setting::Settings;
 
 // Entry i of four, counted from 1; 0 for any other number.
 pub fn entry(xs: [u16; 4], i: u8) -> u16

@@ -13,12 +13,14 @@ use Rattle.field.specs.Field.{field, signedField}
 use Rattle.field.specs.Row.{row, rowAt, total}
 use Rattle.field.proofs.Laws.{Bytes, signed-bits}
 use Rattle.field.proofs.Rows.{row-read}
-use Rattle.bank.specs.View.{Pattern, tab, settingsAt, stepAt, patternAt, patternsOf, offsetOf, lengthOf, stepsIn}
+use Rattle.setting.specs.Setting.{settingsAt}
+use Rattle.bank.specs.View.{stepAt, patternAt, patternsOf, offsetOf, lengthOf, stepsIn}
+use Rattle.field.specs.Tab.{tab}
 use Rattle.bank.specs.Check.{pairRight, pairsFrom, pairsFound, foundIn}
 use Rattle.bank.specs.declared.Step.{Step}
-use Rattle.bank.specs.declared.Checked.the-variants.{Accepted, Pair}
-use Rattle.bank.proofs.Laws.{both-left, both-right}
-use Rattle.bank.proofs.Walk.{length-tab}
+use Rattle.setting.specs.declared.Checked.the-variants.{Accepted}
+use Rattle.setting.proofs.Laws.{both-left, both-right}
+use Rattle.field.proofs.Tab.{length-tab}
 use Rattle.bank.proofs.Facts.{not-pair, test-holds, parts}
 use Rattle.writer.specs.Encode.{paired, settingWidths, settingNumbers, stepWidths, stepNumbers, stepsBytes, bodiesBytes, pairsBytes, encode}
 use Rattle.writer.proofs.Back.{step-at}

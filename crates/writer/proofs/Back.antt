@@ -4,7 +4,7 @@ use mathlib.Core.Path.{_≡_, refl, sym, ap, _∙_, subst}
 use mathlib.Core.List.{List, [], _∷_, _++_, append-assoc}
 use Prim.Native.Nat.{ℕ, _+_, _*_, _-_, _≤_, _<_}
 use native.Mathlib.Omega.{arith}
-use lib.ListN.{length, getD, take, drop, replicate, length-append, length-drop}
+use lib.ListN.{length, getD, take, drop, replicate, length-drop}
 use lib.Seq.{drop-drop, drop-at, take-at}
 use mir.Syntax.{w16}
 use mir.Val.{toZ}
@@ -12,12 +12,15 @@ use mir.Facts.{toZ-ofZ, fits-ofZ}
 use Rattle.field.specs.Field.{field, signedField}
 use Rattle.field.specs.Row.{row, rowAt}
 use Rattle.field.proofs.Rows.{Held, none, held, read-row}
-use Rattle.bank.specs.View.{Pattern, tab, settingsAt, stepAt, patternAt, offsetOf, lengthOf, stepsIn}
-use Rattle.bank.specs.declared.Settings.{Settings}
+use Rattle.bank.specs.View.{Pattern, stepAt, patternAt, offsetOf, lengthOf, stepsIn}
+use Rattle.setting.specs.Setting.{settingsAt}
+use Rattle.field.specs.Tab.{tab}
+use Rattle.setting.specs.declared.Settings.{Settings}
 use Rattle.bank.specs.declared.Step.{Step}
 use Rattle.writer.specs.Encode.{paired, settingWidths, settingNumbers, stepWidths, stepNumbers, stepsBytes, bodiesBytes, sizeOf, pairsBytes}
-use Rattle.writer.proofs.Sizes.{four, length-paired, length-step, length-two, length-steps, length-body}
-use Rattle.writer.proofs.Values.{Four, SettingsFit, StepFits, AllFit}
+use Rattle.writer.proofs.Views.{All}
+use Rattle.writer.proofs.Sizes.{four, length-paired, length-step, length-two, length-pattern, length-body}
+use Rattle.writer.proofs.Values.{Four, SettingsFit, StepFits}
 
 -- what stands behind a part
 behind : (b : List ℕ) (at j : ℕ) (xs ys : List ℕ) → drop at b ≡ xs ++ ys → at + length xs ≡ j → drop j b ≡ ys
@@ -136,7 +139,7 @@ step-read b at s rest f e =
     step-at b at ∙ ap stepFrom (read-row b at rest (step-held s f) e)
     ∙ (λ i. record { target = toZ-ofZ (f .target) i; minutes = s .minutes; wait = s .wait; signals = sym (four (s .signals) (f .signals .size)) i })
 
-steps-read : (b : List ℕ) (ss : List Step) (at : ℕ) (rest : List ℕ) → AllFit ss → drop at b ≡ stepsBytes ss ++ rest → tab (stepAt b) 9 at (length ss) ≡ ss
+steps-read : (b : List ℕ) (ss : List Step) (at : ℕ) (rest : List ℕ) → All StepFits ss → drop at b ≡ stepsBytes ss ++ rest → tab (stepAt b) 9 at (length ss) ≡ ss
 unfolding tab stepsBytes
 steps-read b [] at rest f e = refl
 steps-read b (s ∷ ss) at rest f e =
@@ -149,17 +152,13 @@ steps-read b (s ∷ ss) at rest f e =
 pub record PatternFits (x : Pattern) : Type 0 where
   pub runs : x .runs < 256
   pub count : x .count < 256
-  pub steps : AllFit (x .steps)
+  pub steps : All StepFits (x .steps)
 
 -- patterns stand in a bank, the first of them pattern p, whose body is due at an offset
 abbrev pub Stand : List ℕ → ℕ → ℕ → List Pattern → Type 0
 Stand b p due [] = due ≡ length b
 Stand b p due (x ∷ xs) =
     (offsetOf b p ≡ due) × (lengthOf b p ≡ sizeOf x) × (patternAt b p ≡ x) × (due + sizeOf x ≤ length b) × Stand b (p + 1) (due + sizeOf x) xs
-
-abbrev pub AllFits : List Pattern → Type 0
-AllFits [] = Unit {0}
-AllFits (x ∷ xs) = PatternFits x × AllFits xs
 
 -- the pattern whose body stands where its pair says
 pattern-read : (b : List ℕ) (p due : ℕ) (x : Pattern) (rest : List ℕ) → PatternFits x → offsetOf b p ≡ due → lengthOf b p ≡ sizeOf x
@@ -179,7 +178,7 @@ pattern-read b p due x rest f o l e =
       steps = steps i;
     }
 
-pub stand : (b : List ℕ) (xs : List Pattern) (p due : ℕ) (rest : List ℕ) → length b < 65536 → due ≤ length b → AllFits xs
+pub stand : (b : List ℕ) (xs : List Pattern) (p due : ℕ) (rest : List ℕ) → length b < 65536 → due ≤ length b → All PatternFits xs
     → drop (41 + 4 * p) b ≡ pairsBytes due xs ++ rest → drop due b ≡ bodiesBytes xs → Stand b p due xs
 unfolding pairsBytes bodiesBytes rowAt
 stand b [] p due rest small d f e g = let h : length b - due ≡ 0 = sym (length-drop due b) ∙ ap length g in omega arith
@@ -188,7 +187,7 @@ stand b (x ∷ xs) p due rest small d f e g =
     let body = start ++ stepsBytes (x .steps) in
     let pair = row (2 ∷ 2 ∷ []) (due ∷ sizeOf x ∷ []) in
     let tail = pairsBytes (due + sizeOf x) xs in
-    let size : length body ≡ sizeOf x = length-append start (stepsBytes (x .steps)) ∙ omega (arith, length-two 1 1 (x .runs) (x .count), length-steps (x .steps)) in
+    let size : length body ≡ sizeOf x = length-pattern x in
     let whole : length b - due ≡ sizeOf x + length (bodiesBytes xs) = sym (length-drop due b) ∙ ap length g ∙ length-body x (bodiesBytes xs) in
     let fits : due + sizeOf x ≤ length b = omega arith in
     let h : drop (41 + 4 * p) b ≡ pair ++ (tail ++ rest) = e ∙ append-assoc pair tail rest in
@@ -197,12 +196,14 @@ stand b (x ∷ xs) p due rest small d f e g =
     let numbers : rowAt (2 ∷ 2 ∷ []) b (41 + 4 * p) ≡ due ∷ sizeOf x ∷ [] = read-row b (41 + 4 * p) (tail ++ rest) (held due-below (held size-below none)) h in
     let at2 : 43 + 4 * p ≡ 41 + 4 * p + 2 = omega arith in
     let o : offsetOf b p ≡ due = ap (λ (v : List ℕ). getD v 0 0) numbers in
-    let l : lengthOf b p ≡ sizeOf x = ap (field 2 b) at2 ∙ ap (λ (v : List ℕ). getD v 1 0) numbers in (
+    let l : lengthOf b p ≡ sizeOf x = ap (field 2 b) at2 ∙ ap (λ (v : List ℕ). getD v 1 0) numbers in
+    let pairs = behind b (41 + 4 * p) (41 + 4 * (p + 1)) pair (tail ++ rest) h (omega (arith, length-two 2 2 due (sizeOf x))) in
+    let bodies = behind b due (due + sizeOf x) body (bodiesBytes xs) g (omega (arith, size)) in (
       o,
       l,
       pattern-read b p due x (bodiesBytes xs) (f .0) o l g,
       fits,
-      stand b xs (p + 1) (due + sizeOf x) rest small fits (f .1) (behind b (41 + 4 * p) (41 + 4 * (p + 1)) pair (tail ++ rest) h (omega (arith, length-two 2 2 due (sizeOf x)))) (behind b due (due + sizeOf x) body (bodiesBytes xs) g (omega (arith, size))),
+      stand b xs (p + 1) (due + sizeOf x) rest small fits (f .1) pairs bodies,
     )
 
 -- they are then the patterns of the bank

@@ -3,43 +3,41 @@
 use mathlib.Core.Path.{_≡_, sym, ap, _∙_, subst}
 use mathlib.Core.Bool.{Bool, true}
 use mathlib.Core.List.{List, [], _∷_, _++_, append-assoc}
-use Prim.Native.Nat.{ℕ, zero, suc, _+_, _*_, _≤_, _<_}
+use Prim.Native.Nat.{ℕ, _+_, _*_, _≤_, _<_}
 use native.Mathlib.Omega.{arith}
-use borrow.Author.Tests.{le-leb, leb-true, eq-eqb}
+use borrow.Author.Tests.{le-leb, eq-eqb}
 use lib.IntN.{ℤ}
-use lib.ListN.{length, getD, drop}
+use lib.ListN.{length, drop}
 use lib.Seq.{drop-at}
 use Rattle.field.specs.Field.{field}
 use Rattle.field.specs.Row.{row}
 use Rattle.bank.specs.Capacity.{capacityOf}
-use Rattle.bank.specs.View.{Pattern, tab, settingsAt, patternAt, patternsOf, offsetOf, lengthOf, stepsIn}
-use Rattle.bank.specs.Check.{then, settingsFound, pairRight, pairsFrom, pairsFound, bodiesFound, ofLength, foundIn}
-use Rattle.bank.specs.Read.{allSteps}
-use Rattle.bank.specs.declared.Settings.{Settings}
-use Rattle.bank.specs.declared.Patterns.{Patterns}
-use Rattle.bank.specs.declared.Checked.{Checked}
-use Rattle.bank.specs.declared.Checked.the-variants.{Accepted, Pair, Body}
-use Rattle.bank.proofs.Laws.{on, right, next, both-left}
+use Rattle.bank.specs.View.{Pattern, patternAt, patternsOf, offsetOf, lengthOf, stepsIn}
+use Rattle.setting.specs.Setting.{settingsAt}
+use Rattle.field.specs.Tab.{tab}
+use Rattle.setting.specs.Found.{then}
+use Rattle.setting.specs.Setting.{settingsFound, settingsIn}
+use Rattle.bank.specs.Check.{pairRight, pairsFrom, pairsFound, bodiesFound, ofLength, foundIn}
+use Rattle.writer.specs.Read.{allSteps}
+use Rattle.setting.specs.declared.Settings.{Settings}
+use Rattle.setting.specs.declared.Checked.{Checked}
+use Rattle.writer.specs.declared.Patterns.{Patterns}
+use Rattle.setting.specs.declared.Checked.the-variants.{Accepted}
+use Rattle.setting.proofs.Laws.{on, right, first-is, next, both-left}
 use Rattle.bank.proofs.Facts.{not-body, test-holds, then-holds, all-fit}
 use Rattle.writer.specs.Encode.{settingWidths, settingNumbers, bodiesBytes, sizeOf, pairsBytes, encode}
-use Rattle.writer.specs.Write.{takenFrom, takenOf, withinCapacity, wrongIn}
-use Rattle.writer.proofs.Taken.{Fit, fit-of, length-taken, sumTo, sum-more, all-in}
+use Rattle.writer.specs.Write.{takenOf, withinCapacity, wrongIn}
+use Rattle.writer.proofs.Views.{All, all-map, all-drop, all-take, all-tab}
+use Rattle.writer.proofs.Taken.{countAt, patternIn, taken-all, length-taken, Fit, fit-of, sumTo, all-in}
 use Rattle.writer.proofs.Sizes.{length-settings, length-front, length-bank, full, length-all}
-use Rattle.writer.proofs.Values.{SettingsFit, fours-of, PatternsFit, AllFit, fit-drop, fit-take}
-use Rattle.writer.proofs.Back.{PatternFits, AllFits, Stand, settings-read, stand, patterns-read}
+use Rattle.writer.proofs.Values.{SettingsFit, fours-of, PatternsFit, StepFits}
+use Rattle.writer.proofs.Back.{PatternFits, Stand, settings-read, stand, patterns-read}
 
 -- ---- patterns that are right
 
-abbrev pub All : (Pattern → Type 0) → List Pattern → Type 0
-All P [] = Unit {0}
-All P (x ∷ xs) = P x × All P xs
-
-pub all-map : (P Q : Pattern → Type 0) → ((x : Pattern) → P x → Q x) → (xs : List Pattern) → All P xs → All Q xs
-all-map P Q f [] h = tt
-all-map P Q f (x ∷ xs) h = (f x (h .0), all-map P Q f xs (h .1))
-
 -- one walk over patterns finds nothing wrong: no more does another, whose test of s holds of each
-pub bodies-change : (f g : Pattern → Bool) (low high : ℤ) (p : ℕ) (xs : List Pattern) → All (λ x. g x ≡ true) xs → bodiesFound f low high p xs ≡ Accepted → bodiesFound g low high p xs ≡ Accepted
+pub bodies-change : (f g : Pattern → Bool) (low high : ℤ) (p : ℕ) (xs : List Pattern) → All (λ x. g x ≡ true) xs → bodiesFound f low high p xs ≡ Accepted
+    → bodiesFound g low high p xs ≡ Accepted
 unfolding bodiesFound
 bodies-change f g low high p [] h e = e
 bodies-change f g low high p (x ∷ xs) h e =
@@ -52,36 +50,24 @@ pub record Whole (n : ℕ) (x : Pattern) : Type 0 where
   pub runs : x .runs ≤ 99
   pub count : x .count ≡ length (x .steps)
   pub most : x .count ≤ capacityOf n
-  pub steps : AllFit (x .steps)
-
-module _ (low high : ℤ) (ps : Patterns) (n : ℕ) (fit : Fit n (ps .counts)) (fits : PatternsFit ps) where
-  whole-from : (q p m : ℕ) → p + m ≡ n → bodiesFound (withinCapacity n) low high q (takenFrom ps p (sumTo (ps .counts) p) m) ≡ Accepted → All (Whole n) (takenFrom ps p (sumTo (ps .counts) p) m)
-  unfolding takenFrom bodiesFound
-  whole-from q p zero e ok = tt
-  whole-from q p (suc m) e ok =
-      let base = sumTo (ps .counts) p in
-      let count = getD (ps .counts) p 0 in
-      let t = test-holds _ _ _ (not-body q 0) ok in
-      let same = sum-more (ps .counts) p in
-      let rest = subst (λ (k : ℕ). bodiesFound (withinCapacity n) low high (q + 1) (takenFrom ps (p + 1) k m) ≡ Accepted) (sym same) (then-holds _ _ (t .1) .1) in (
-        record {
-          runs = leb-true _ _ (both-left _ _ (t .0));
-          count = sym (full ps n fit (fits .size) p (omega arith));
-          most = fit .count p (omega arith);
-          steps = fit-take count (drop base (ps .steps)) (fit-drop base (ps .steps) (fits .steps));
-        },
-        subst (λ (k : ℕ). All (Whole n) (takenFrom ps (p + 1) k m)) same (whole-from (q + 1) (p + 1) m (omega arith) rest),
-      )
+  pub steps : All StepFits (x .steps)
 
 pub whole-all : (s : Settings) (ps : Patterns) → PatternsFit ps → wrongIn s (takenOf s ps) ≡ Accepted → All (Whole (s .patterns)) (takenOf s ps)
-unfolding wrongIn takenOf sumTo
-whole-all s ps fits ok =
-    whole-from (s .low) (s .high) ps (s .patterns) (fit-of s ps ok) fits 1 0 (s .patterns) (omega arith) (then-holds _ _ ok .1)
+whole-all s ps fits ok = subst (All (Whole n)) (sym (taken-all s ps)) (all-tab (Whole n) (patternIn ps) 0 n (λ p l u. one p (omega arith)))
+  where
+    n : ℕ
+    n = s .patterns
 
-all-fits : (n : ℕ) → n ≤ 15 → (xs : List Pattern) → ((x : Pattern) → Whole n x → x .count ≤ 99) → All (Whole n) xs → AllFits xs
-all-fits n few [] c h = tt
-all-fits n few (x ∷ xs) c h =
-    (record { runs = omega (arith, h .0 .runs); count = omega (arith, c x (h .0)); steps = h .0 .steps }, all-fits n few xs c (h .1))
+    fit : Fit n ps
+    fit = fit-of s ps ok
+
+    one : (p : ℕ) → p < n → Whole n (patternIn ps p)
+    one p h = record {
+      runs = fit .runs p h;
+      count = sym (full ps n fit (fits .size) p h);
+      most = fit .count p h;
+      steps = all-take StepFits (countAt ps p) (drop (sumTo (ps .counts) p) (ps .steps)) (all-drop StepFits (sumTo (ps .counts) p) (ps .steps) (fits .steps));
+    }
 
 -- ---- the pairs
 
@@ -100,11 +86,6 @@ pairs-right b n (x ∷ xs) p due w h =
 
 -- ---- the bank
 
--- as many patterns as the settings say
-pub length-xs : (s : Settings) (ps : Patterns) → length (takenOf s ps) ≡ s .patterns
-unfolding takenOf
-length-xs s ps = length-taken ps 0 0 (s .patterns)
-
 module _ (s : Settings) (ps : Patterns) (f : SettingsFit s) (g : PatternsFit ps) (ok : wrongIn s (takenOf s ps) ≡ Accepted) where
   abbrev xs : List Pattern
   xs = takenOf s ps
@@ -112,22 +93,28 @@ module _ (s : Settings) (ps : Patterns) (f : SettingsFit s) (g : PatternsFit ps)
   abbrev b : List ℕ
   b = encode s xs
 
-  fit : Fit (s .patterns) (ps .counts)
+  fit : Fit (s .patterns) ps
   fit = fit-of s ps ok
 
   wholes : All (Whole (s .patterns)) xs
   wholes = whole-all s ps g ok
 
   -- at most 99 steps
-  steps-in : length (allSteps xs) ≤ 99
-  unfolding takenOf
-  steps-in = omega (arith, length-all ps (s .patterns) fit (g .size), all-in (s .patterns) (ps .counts) fit (s .patterns) (omega arith))
+  steps-in : length (allSteps (takenOf s ps)) ≤ 99
+  steps-in =
+      let same = ap (λ (ys : List Pattern). length (allSteps ys)) (taken-all s ps) in
+      omega (arith, same, length-all ps (s .patterns) fit (g .size), all-in (s .patterns) ps fit (s .patterns) (omega arith))
 
-  size : length b ≡ 45 + 6 * length xs + 9 * length (allSteps xs)
+  size : length (encode s (takenOf s ps)) ≡ 45 + 6 * length (takenOf s ps) + 9 * length (allSteps (takenOf s ps))
   size = length-bank s xs (fours-of s f)
 
+  -- by a number of steps that is theirs
+  pub size-by : {steps : ℕ} → steps ≡ length (allSteps (takenOf s ps))
+      → (45 + 6 * s .patterns + 9 * steps ≡ length (encode s (takenOf s ps))) × (steps ≤ 99)
+  size-by e = (omega (arith, size, length-taken s ps), omega (arith, steps-in))
+
   short : length b < 65536
-  short = omega (arith, size, length-xs s ps, fit .few, steps-in)
+  short = omega (arith, size, length-taken s ps, fit .few, steps-in)
 
   abbrev due : ℕ
   due = 45 + 4 * length xs
@@ -147,8 +134,9 @@ module _ (s : Settings) (ps : Patterns) (f : SettingsFit s) (g : PatternsFit ps)
 
   stands : Stand b 1 due xs
   stands =
-      let below : (x : Pattern) → Whole (s .patterns) x → x .count ≤ 99 = λ x w. omega (arith, w .most, all-fit (s .patterns) 1 (fit .some) (fit .few) (fit .some)) in
-      stand b xs 1 due (bodiesBytes xs) short (omega (arith, size)) (all-fits (s .patterns) (fit .few) xs below wholes) at-pairs at-bodies
+      let cap = all-fit (s .patterns) 1 (fit .some) (fit .few) (fit .some) in
+      let fits : (x : Pattern) → Whole (s .patterns) x → PatternFits x = λ x w. record { runs = omega (arith, w .runs); count = omega (arith, w .most, cap); steps = w .steps } in
+      stand b xs 1 due (bodiesBytes xs) short (omega (arith, size)) (all-map (Whole (s .patterns)) PatternFits fits xs wholes) at-pairs at-bodies
 
   -- it reads as what was taken
   pub reads-settings : settingsAt (encode s (takenOf s ps)) ≡ s
@@ -156,7 +144,7 @@ module _ (s : Settings) (ps : Patterns) (f : SettingsFit s) (g : PatternsFit ps)
 
   count-read : field 1 b 0 ≡ length xs
   unfolding settingsAt
-  count-read = ap (λ (x : Settings). x .patterns) reads-settings ∙ sym (length-xs s ps)
+  count-read = ap (λ (x : Settings). x .patterns) reads-settings ∙ sym (length-taken s ps)
 
   pub reads-patterns : patternsOf (encode s (takenOf s ps)) ≡ takenOf s ps
   unfolding patternsOf
@@ -166,16 +154,17 @@ module _ (s : Settings) (ps : Patterns) (f : SettingsFit s) (g : PatternsFit ps)
   pairs-found : pairsFound b (s .patterns) ≡ Accepted
   unfolding pairsFound
   pairs-found =
-      let n : s .patterns ≡ length xs = sym (length-xs s ps) in
+      let n : s .patterns ≡ length xs = sym (length-taken s ps) in
       right _ (le-leb (45 + 4 * s .patterns) (length b) (omega (arith, size, n)))
       ∙ (λ i. pairsFrom b (s .patterns) (n i) 1 (45 + 4 * n i)) ∙ pairs-right b (s .patterns) xs 1 due wholes stands
 
   pub written-accepted : foundIn (encode s (takenOf s ps)) ≡ Accepted
-  unfolding foundIn wrongIn ofLength
+  unfolding foundIn settingsIn wrongIn ofLength
   written-accepted =
       let parts = then-holds _ _ ok in
-      let bodies : bodiesFound ofLength (s .low) (s .high) 1 xs ≡ Accepted =
-      bodies-change (withinCapacity (s .patterns)) ofLength (s .low) (s .high) 1 xs (all-map (Whole (s .patterns)) (λ x. ofLength x ≡ true) (λ x w. eq-eqb (x .count) (length (x .steps)) (w .count)) xs wholes) (parts .1) in
-      right _ (le-leb 45 (length b) (omega (arith, size)))
-      ∙ (λ i. then (settingsFound (reads-settings i)) (then (pairsFound b (reads-settings i .patterns)) (bodiesFound ofLength (reads-settings i .low) (reads-settings i .high) 1 (reads-patterns i))))
+      let counts : All (λ x. ofLength x ≡ true) xs = all-map (Whole (s .patterns)) _ (λ x w. eq-eqb (x .count) (length (x .steps)) (w .count)) xs wholes in
+      let bodies = bodies-change (withinCapacity (s .patterns)) ofLength (s .low) (s .high) 1 xs counts (parts .1) in
+      let found : Settings → List Pattern → Checked = λ t ys. then (settingsFound t) (then (pairsFound b (t .patterns)) (bodiesFound ofLength (t .low) (t .high) 1 ys)) in
+      first-is _ (right _ (le-leb 45 (length b) (omega (arith, size))))
+      ∙ (λ i. found (reads-settings i) (reads-patterns i))
       ∙ next (parts .0) ∙ next pairs-found ∙ bodies

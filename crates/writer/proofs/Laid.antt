@@ -3,7 +3,7 @@
 use mathlib.Core.Path.{_≡_, refl, sym, ap, _∙_, subst}
 use mathlib.Core.Bool.{true}
 use mathlib.Core.List.{List, [], _∷_, _++_, map, append-assoc}
-use Prim.Native.Nat.{ℕ, zero, suc, _+_, _*_, _≤_, _<_}
+use Prim.Native.Nat.{ℕ, _+_, _*_, _≤_}
 use native.Mathlib.Nat.{add-zero, suc-mul, le-trans}
 use native.Mathlib.Omega.{arith}
 use borrow.Author.Tests.{le-leb}
@@ -11,17 +11,19 @@ use lib.ListN.{length, getD, take, drop, replicate, length-append, length-map}
 use lib.Seq.{sets, sets-eq, drop-drop, drop-at, take-at, getD-drop}
 use Rattle.field.specs.Field.{field}
 use Rattle.bank.specs.Capacity.{capacityOf}
-use Rattle.bank.specs.View.{Pattern, tab, settingsAt, patternAt, patternsOf, noStep}
+use Rattle.bank.specs.View.{Pattern, patternAt, patternsOf, noStep}
+use Rattle.setting.specs.Setting.{settingsAt}
 use Rattle.bank.specs.Check.{ofLength, foundIn}
-use Rattle.bank.specs.Read.{allSteps, laidOut}
+use Rattle.writer.specs.Read.{allSteps, laidOut}
 use Rattle.bank.specs.declared.Step.{Step}
-use Rattle.bank.specs.declared.Patterns.{Patterns}
-use Rattle.bank.specs.declared.Checked.the-variants.{Accepted}
-use Rattle.bank.proofs.Laws.{next}
-use Rattle.bank.proofs.Walk.{length-tab}
+use Rattle.writer.specs.declared.Patterns.{Patterns}
+use Rattle.setting.specs.declared.Checked.the-variants.{Accepted}
+use Rattle.setting.proofs.Laws.{next}
+use Rattle.field.proofs.Tab.{length-tab}
 use Rattle.bank.proofs.Facts.{parts, count-range, there, pattern-there, count-is, count-fits, all-fit}
 use Rattle.writer.specs.Write.{takenFrom, takenOf, withinCapacity, wrongIn}
-use Rattle.writer.proofs.Found.{All, all-map, bodies-change}
+use Rattle.writer.proofs.Views.{All, all-map, all-tab}
+use Rattle.writer.proofs.Found.{bodies-change}
 
 -- the entry at a place, and what stands behind it
 entry : (l : List ℕ) (p x : ℕ) (r : List ℕ) → drop p l ≡ x ∷ r → getD l p 0 ≡ x
@@ -55,11 +57,6 @@ unfolding allSteps
 length-all n [] h = omega arith
 length-all n (x ∷ xs) h =
     omega (arith, length-append (x .steps) (allSteps xs), length-all n xs (h .1), h .0 .0, h .0 .1, suc-mul (length xs) (capacityOf n))
-
-all-tab : (P : Pattern → Type 0) (f : ℕ → Pattern) (p m : ℕ) → ((i : ℕ) → p ≤ i → i < p + m → P (f i)) → All P (tab f 1 p m)
-unfolding tab
-all-tab P f p zero h = tt
-all-tab P f p (suc m) h = (h p (omega arith) (omega arith), all-tab P f (p + 1) m (λ i l u. h i (omega arith) (omega arith)))
 
 module _ (b : List ℕ) (ok : foundIn b ≡ Accepted) where
   abbrev n : ℕ

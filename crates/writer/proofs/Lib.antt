@@ -1,7 +1,10 @@
+pub mod Views
+pub mod Copied
 pub mod Taken
 pub mod Sizes
 pub mod Values
-pub mod Writing
+pub mod Answers
+pub mod Rows
 pub mod Back
 pub mod Found
 pub mod Again

@@ -2,29 +2,34 @@
 -- the rest gives the whole.
 -- Assumes nothing.
 use mathlib.Core.Path.{_≡_, refl, sym, ap, _∙_, subst}
+use mathlib.Core.Bool.{Bool, true}
 use mathlib.Core.List.{List, [], _∷_}
 use Prim.Native.Nat.{ℕ, zero, suc, _+_, _*_, _-_, _≤_, _<_}
-use native.Mathlib.Nat.{sub-zero, add-zero, zero-add, le-trans}
+use native.Mathlib.Nat.{sub-zero, add-zero, le-trans}
 use native.Mathlib.Numerals.{add-one}
 use native.Mathlib.Omega.{arith}
 use borrow.Author.Tests.{leb-true}
+use lib.Dec.{leb}
 use lib.IntN.{ℤ}
 use lib.ListN.{length, getD, take, drop}
 use lib.Seq.{drop-cons}
+use Rattle.field.specs.Tab.{tab}
+use Rattle.field.proofs.Tab.{length-tab, getD-tab}
+use Rattle.setting.specs.Range.{both}
 use Rattle.bank.specs.Capacity.{capacityOf}
-use Rattle.bank.specs.View.{Pattern}
-use Rattle.bank.specs.Check.{stepRight, stepsFound, test, then, bodiesFound}
-use Rattle.bank.specs.Range.{both}
-use lib.Dec.{leb}
-use Rattle.bank.specs.declared.Settings.{Settings}
+use Rattle.bank.specs.View.{Pattern, noPattern}
+use Rattle.bank.specs.Check.{stepRight, stepsFound, bodiesFound}
+use Rattle.setting.specs.Found.{test, then}
+use Rattle.setting.specs.declared.Settings.{Settings}
 use Rattle.bank.specs.declared.Step.{Step}
-use Rattle.bank.specs.declared.Patterns.{Patterns}
-use Rattle.bank.specs.declared.Checked.{Checked}
-use Rattle.bank.specs.declared.Checked.the-variants.{Accepted, Body}
-use Rattle.bank.proofs.Laws.{both-right, settings-count}
+use Rattle.setting.specs.declared.Checked.{Checked}
+use Rattle.setting.specs.declared.Checked.the-variants.{Accepted, Body}
+use Rattle.setting.proofs.Laws.{both-left, both-right, settings-count}
 use Rattle.bank.proofs.Facts.{not-body, test-holds, then-holds, all-fit}
-use Rattle.bank.proofs.Copied.{grown}
+use Rattle.writer.specs.declared.Patterns.{Patterns}
 use Rattle.writer.specs.Write.{takenFrom, takenOf, withinCapacity, wrongIn}
+use Rattle.writer.proofs.Views.{rest, rest-start, rest-more, rest-end}
+use Rattle.writer.proofs.Copied.{grown}
 
 -- ---- the steps of a pattern, from place k of it on
 
@@ -47,32 +52,44 @@ pub part-end : (steps : List Step) (base count k : ℕ) → count ≤ k → part
 unfolding part
 part-end steps base count k h = let e : count - k ≡ 0 = omega arith in rw e
 
--- ---- the patterns, from place p on, whose steps stand from place base on
+-- ---- the patterns, from place p on
 
-abbrev pub patternIn : Patterns → ℕ → ℕ → Pattern
-patternIn ps p base =
-    record { runs = getD (ps .runs) p 0; count = getD (ps .counts) p 0; steps = take (getD (ps .counts) p 0) (drop base (ps .steps)) }
+-- the steps before place p
+unfoldable pub sumTo : List ℕ → ℕ → ℕ
+sumTo counts zero = 0
+sumTo counts (suc p) = sumTo counts p + getD counts p 0
 
-unfoldable pub rest : Patterns → ℕ → ℕ → ℕ → List Pattern
-rest ps n p base = takenFrom ps p base (n - p)
+pub sum-more : (counts : List ℕ) (p : ℕ) → sumTo counts (p + 1) ≡ sumTo counts p + getD counts p 0
+unfolding sumTo
+sum-more counts p = rw add-one
 
-pub rest-start : (ps : Patterns) (n : ℕ) → takenFrom ps 0 0 n ≡ rest ps n 0 0
-unfolding rest
-rest-start ps n = rw sub-zero
+abbrev pub countAt : Patterns → ℕ → ℕ
+countAt ps p = getD (ps .counts) p 0
 
-pub rest-more : (ps : Patterns) (n p base : ℕ) → p < n
-    → rest ps n p base ≡ patternIn ps p base ∷ rest ps n (p + 1) (base + getD (ps .counts) p 0)
-unfolding rest takenFrom
-rest-more ps n p base h = let e : n - p ≡ suc (n - (p + 1)) = omega arith in rw e
+abbrev pub stepsAt : Patterns → ℕ → List Step
+stepsAt ps p = take (countAt ps p) (drop (sumTo (ps .counts) p) (ps .steps))
 
-pub rest-end : (ps : Patterns) (n p base : ℕ) → n ≤ p → rest ps n p base ≡ []
-unfolding rest takenFrom
-rest-end ps n p base h = let e : n - p ≡ 0 = omega arith in rw e
+abbrev pub patternIn : Patterns → ℕ → Pattern
+patternIn ps p = record { runs = getD (ps .runs) p 0; count = countAt ps p; steps = stepsAt ps p }
 
-pub length-taken : (ps : Patterns) (p base m : ℕ) → length (takenFrom ps p base m) ≡ m
-unfolding takenFrom
-length-taken ps p base zero = refl
-length-taken ps p base (suc m) = ap suc (length-taken ps (p + 1) (base + getD (ps .counts) p 0) m)
+-- m of them
+from-place : (ps : Patterns) (p m : ℕ) → takenFrom ps p (sumTo (ps .counts) p) m ≡ tab (patternIn ps) 1 p m
+unfolding takenFrom tab
+from-place ps p zero = refl
+from-place ps p (suc m) =
+    ap (λ (base : ℕ). patternIn ps p ∷ takenFrom ps (p + 1) base m) (sym (sum-more (ps .counts) p))
+    ∙ ap (λ (xs : List Pattern). patternIn ps p ∷ xs) (from-place ps (p + 1) m)
+
+-- all of them
+pub taken-all : (s : Settings) (ps : Patterns) → takenOf s ps ≡ tab (patternIn ps) 1 0 (s .patterns)
+unfolding takenOf sumTo
+taken-all s ps = from-place ps 0 (s .patterns)
+
+pub taken-rest : (s : Settings) (ps : Patterns) → takenOf s ps ≡ rest (patternIn ps) (s .patterns) 0
+taken-rest s ps = taken-all s ps ∙ rest-start (patternIn ps) (s .patterns)
+
+pub length-taken : (s : Settings) (ps : Patterns) → length (takenOf s ps) ≡ s .patterns
+length-taken s ps = ap length (taken-all s ps) ∙ length-tab (patternIn ps) 1 0 (s .patterns)
 
 -- ---- the check of what is left, under the set value limits
 
@@ -92,82 +109,82 @@ module _ (low high : ℤ) where
   steps-end steps p base count k h = ap (stepsFound low high (p + 1) (k + 1)) (part-end steps base count k h)
 
   -- the patterns, from pattern p + 1 on
-  unfoldable pub patternsLeft : Patterns → ℕ → ℕ → ℕ → Checked
-  patternsLeft ps n p base = bodiesFound (withinCapacity n) low high (p + 1) (rest ps n p base)
+  unfoldable pub patternsLeft : Patterns → ℕ → ℕ → Checked
+  patternsLeft ps n p = bodiesFound (withinCapacity n) low high (p + 1) (rest (patternIn ps) n p)
 
-  pub patterns-start : (ps : Patterns) (n : ℕ) → bodiesFound (withinCapacity n) low high 1 (takenFrom ps 0 0 n) ≡ patternsLeft ps n 0 0
-  unfolding patternsLeft
-  patterns-start ps n = ap (bodiesFound (withinCapacity n) low high 1) (rest-start ps n)
-
-  pub patterns-more : (ps : Patterns) (n p base : ℕ) → p < n
-      → patternsLeft ps n p base
-      ≡ test (both (leb (getD (ps .runs) p 0) 99) (leb (getD (ps .counts) p 0) (capacityOf n))) (Body (p + 1) 0)
-      (then (stepsLeft (ps .steps) p base (getD (ps .counts) p 0) 0) (patternsLeft ps n (p + 1) (base + getD (ps .counts) p 0)))
+  pub patterns-more : (ps : Patterns) (n p base : ℕ) → p < n → base ≡ sumTo (ps .counts) p
+      → patternsLeft ps n p
+      ≡ test (both (leb (getD (ps .runs) p 0) 99) (leb (countAt ps p) (capacityOf n))) (Body (p + 1) 0)
+      (then (stepsLeft (ps .steps) p base (countAt ps p) 0) (patternsLeft ps n (p + 1)))
   unfolding patternsLeft stepsLeft bodiesFound withinCapacity
-  patterns-more ps n p base h =
-      let count = getD (ps .counts) p 0 in
-      let next = bodiesFound (withinCapacity n) low high (p + 1 + 1) (rest ps n (p + 1) (base + count)) in
-      ap (bodiesFound (withinCapacity n) low high (p + 1)) (rest-more ps n p base h)
-      ∙ ap (λ (ss : List Step). test (both (leb (getD (ps .runs) p 0) 99) (leb count (capacityOf n))) (Body (p + 1) 0) (then (stepsFound low high (p + 1) 1 ss) next)) (part-start (ps .steps) base count)
+  patterns-more ps n p base h e =
+      let right = both (leb (getD (ps .runs) p 0) 99) (leb (countAt ps p) (capacityOf n)) in
+      let next = bodiesFound (withinCapacity n) low high (p + 1 + 1) (rest (patternIn ps) n (p + 1)) in
+      let steps : stepsAt ps p ≡ part (ps .steps) base (countAt ps p) 0 =
+      ap (λ (k : ℕ). take (countAt ps p) (drop k (ps .steps))) (sym e) ∙ part-start (ps .steps) base (countAt ps p) in
+      ap (bodiesFound (withinCapacity n) low high (p + 1)) (rest-more (patternIn ps) n p h)
+      ∙ ap (λ (ss : List Step). test right (Body (p + 1) 0) (then (stepsFound low high (p + 1) 1 ss) next)) steps
 
-  pub patterns-end : (ps : Patterns) (n p base : ℕ) → n ≤ p → patternsLeft ps n p base ≡ Accepted
+  pub patterns-end : (ps : Patterns) (n p : ℕ) → n ≤ p → patternsLeft ps n p ≡ Accepted
   unfolding patternsLeft bodiesFound
-  patterns-end ps n p base h = ap (bodiesFound (withinCapacity n) low high (p + 1)) (rest-end ps n p base h)
+  patterns-end ps n p h = ap (bodiesFound (withinCapacity n) low high (p + 1)) (rest-end (patternIn ps) n p h)
+
+pub patterns-start : (s : Settings) (ps : Patterns)
+    → bodiesFound (withinCapacity (s .patterns)) (s .low) (s .high) 1 (takenOf s ps) ≡ patternsLeft (s .low) (s .high) ps (s .patterns) 0
+unfolding patternsLeft
+patterns-start s ps = ap (bodiesFound (withinCapacity (s .patterns)) (s .low) (s .high) 1) (taken-rest s ps)
 
 -- ---- of patterns that are right
 
--- as many as there can be, each with at most as many steps as there can be
-pub record Fit (n : ℕ) (counts : List ℕ) : Type 0 where
+-- runs and s of each
+each-right : (right : Pattern → Bool) (low high : ℤ) (xs : List Pattern) (q j : ℕ) (d : Pattern) → bodiesFound right low high q xs ≡ Accepted → j < length xs
+    → (getD xs j d .runs ≤ 99) × (right (getD xs j d) ≡ true)
+unfolding bodiesFound
+each-right right low high [] q j d e h = absurd (omega arith)
+each-right right low high (x ∷ xs) q zero d e h =
+    let t = test-holds _ _ _ (not-body q 0) e .0 in
+    (leb-true _ _ (both-left _ _ t), both-right _ _ t)
+each-right right low high (x ∷ xs) q (suc j) d e h =
+    each-right right low high xs (q + 1) j d (then-holds _ _ (test-holds _ _ _ (not-body q 0) e .1) .1) (omega arith)
+
+-- as many as there can be, each with at most as many runs and steps as there can be
+pub record Fit (n : ℕ) (ps : Patterns) : Type 0 where
   pub some : 1 ≤ n
   pub few : n ≤ 15
-  pub count : (p : ℕ) → p < n → getD counts p 0 ≤ capacityOf n
+  pub runs : (p : ℕ) → p < n → getD (ps .runs) p 0 ≤ 99
+  pub count : (p : ℕ) → p < n → countAt ps p ≤ capacityOf n
 
-counts-fit : (low high : ℤ) (ps : Patterns) (n q p base m j : ℕ) → bodiesFound (withinCapacity n) low high q (takenFrom ps p base m) ≡ Accepted → j < m
-    → getD (ps .counts) (p + j) 0 ≤ capacityOf n
-unfolding bodiesFound takenFrom withinCapacity
-counts-fit low high ps n q p base zero j e h = absurd (omega arith)
-counts-fit low high ps n q p base (suc m) zero e h =
-    let f : p + 0 ≡ p = add-zero p in
-    rw f (leb-true _ _ (both-right _ _ (test-holds _ _ _ (not-body q 0) e .0)))
-counts-fit low high ps n q p base (suc m) (suc j) e h =
-    let f : p + suc j ≡ p + 1 + j = omega arith in
-    rw f (counts-fit low high ps n (q + 1) (p + 1) (base + getD (ps .counts) p 0) m j (then-holds _ _ (test-holds _ _ _ (not-body q 0) e .1) .1) (omega arith))
+pub fit-of : (s : Settings) (ps : Patterns) → wrongIn s (takenOf s ps) ≡ Accepted → Fit (s .patterns) ps
+unfolding wrongIn withinCapacity
+fit-of s ps e = record {
+  some = settings-count s (then-holds _ _ e .0) .0;
+  few = settings-count s (then-holds _ _ e .0) .1;
+  runs = λ p h. each p h .0;
+  count = λ p h. leb-true _ _ (each p h .1);
+}
+  where
+    n : ℕ
+    n = s .patterns
 
-pub fit-of : (s : Settings) (ps : Patterns) → wrongIn s (takenOf s ps) ≡ Accepted → Fit (s .patterns) (ps .counts)
-unfolding wrongIn takenOf
-fit-of s ps e =
-    let t = then-holds _ _ e in
-    let r = settings-count s (t .0) in
-    record {
-      some = r .0;
-      few = r .1;
-      count = λ p h. subst (λ (i : ℕ). getD (ps .counts) i 0 ≤ capacityOf (s .patterns)) (zero-add p)
-          (counts-fit (s .low) (s .high) ps (s .patterns) 1 0 0 (s .patterns) p (t .1) h);
-    }
+    found : bodiesFound (withinCapacity n) (s .low) (s .high) 1 (tab (patternIn ps) 1 0 n) ≡ Accepted
+    found = ap (bodiesFound (withinCapacity n) (s .low) (s .high) 1) (sym (taken-all s ps)) ∙ then-holds _ _ e .1
 
--- by a number that is theirs
-pub fit-by : (s : Settings) (ps : Patterns) {n : ℕ} → n ≡ s .patterns → wrongIn s (takenOf s ps) ≡ Accepted → Fit n (ps .counts)
-fit-by s ps e ok = subst (λ (n : ℕ). Fit n (ps .counts)) (sym e) (fit-of s ps ok)
+    each : (p : ℕ) → p < n → (getD (ps .runs) p 0 ≤ 99) × (withinCapacity n (patternIn ps p) ≡ true)
+    each p h =
+        let i : 0 + 1 * p ≡ p = omega arith in
+        subst (λ (x : Pattern). (x .runs ≤ 99) × (withinCapacity n x ≡ true)) (getD-tab (patternIn ps) 1 0 n p noPattern h ∙ ap (patternIn ps) i)
+        (each-right (withinCapacity n) (s .low) (s .high) (tab (patternIn ps) 1 0 n) 1 p noPattern found (omega (arith, length-tab (patternIn ps) 1 0 n)))
 
--- the steps before place p
-unfoldable pub sumTo : List ℕ → ℕ → ℕ
-sumTo counts zero = 0
-sumTo counts (suc p) = sumTo counts p + getD counts p 0
-
-pub sum-more : (counts : List ℕ) (p : ℕ) → sumTo counts (p + 1) ≡ sumTo counts p + getD counts p 0
-unfolding sumTo
-sum-more counts p = rw add-one
-
-module _ (n : ℕ) (counts : List ℕ) (fit : Fit n counts) where
-  sum-fits : (p : ℕ) → p ≤ n → sumTo counts p ≤ p * capacityOf n
+module _ (n : ℕ) (ps : Patterns) (fit : Fit n ps) where
+  sum-fits : (p : ℕ) → p ≤ n → sumTo (ps .counts) p ≤ p * capacityOf n
   unfolding sumTo
   sum-fits zero h = omega arith
   sum-fits (suc p) h =
-      rw (← add-one) (grown (sumTo counts p) (getD counts p 0) p (capacityOf n) (sum-fits p (omega arith)) (fit .count p (omega arith)))
+      rw (← add-one) (grown (sumTo (ps .counts) p) (countAt ps p) p (capacityOf n) (sum-fits p (omega arith)) (fit .count p (omega arith)))
 
   -- there are at most 99
-  pub all-in : (p : ℕ) → p ≤ n → sumTo counts p ≤ 99
+  pub all-in : (p : ℕ) → p ≤ n → sumTo (ps .counts) p ≤ 99
   all-in p h = le-trans (sum-fits p h) (all-fit n p (fit .some) (fit .few) h)
 
-  pub next-in : (p : ℕ) → p < n → sumTo counts p + getD counts p 0 ≤ 99
-  next-in p h = let i = all-in (p + 1) (omega arith) in omega (arith, sum-more counts p)
+  pub next-in : (p : ℕ) → p < n → sumTo (ps .counts) p + countAt ps p ≤ 99
+  next-in p h = let i = all-in (p + 1) (omega arith) in omega (arith, sum-more (ps .counts) p)

@@ -1,10 +1,10 @@
 -- What every value of the types that the writer takes has: numbers that fit their fields, and arrays of their lengths.
 -- Assumes nothing.
-use mathlib.Core.Path.{_≡_, sym, _∙_}
-use mathlib.Core.List.{List, [], _∷_, map}
+use mathlib.Core.Path.{_≡_, sym, _∙_, subst}
+use mathlib.Core.List.{List, [], _∷_, map, map-id}
 use Prim.Native.Nat.{ℕ, zero, suc, _<_, _^_}
 use native.Mathlib.Omega.{arith}
-use lib.ListN.{length, getD, take, drop, length-map}
+use lib.ListN.{length, getD, length-map}
 use mir.Syntax.{Width, w8, w16}
 use mir.Val.{Val, SFits, bits}
 use denote.Laws.{Is}
@@ -12,12 +12,13 @@ use denote.Shadow.{shadow}
 use denote.Plain.{UInt}
 use denote.Array.{each, Array}
 use denote.Struct.Declared.{row}
-use Rattle.bank.specs.declared.Settings.{Settings}
+use Rattle.setting.specs.declared.Settings.{Settings}
 use Rattle.bank.specs.declared.Step.{Step}
-use Rattle.bank.specs.declared.Patterns.{Patterns}
-use Rattle.bank.proofs.Settings as settings
+use Rattle.writer.specs.declared.Patterns.{Patterns}
+use Rattle.setting.proofs.Settings as settings
 use Rattle.bank.proofs.Step as step
-use Rattle.bank.proofs.Patterns as patterns
+use Rattle.writer.proofs.Patterns as patterns
+use Rattle.writer.proofs.Views.{All}
 use Rattle.writer.proofs.Sizes.{Fours}
 
 -- an array of four, each number below a bound
@@ -50,25 +51,10 @@ pub record StepFits (s : Step) : Type 0 where
   pub wait : s .wait < 256
   pub signals : Four 256 (s .signals)
 
-abbrev pub AllFit : List Step → Type 0
-AllFit [] = Unit {0}
-AllFit (s ∷ ss) = StepFits s × AllFit ss
-
 -- the patterns: 99 steps
 pub record PatternsFit (ps : Patterns) : Type 0 where
   pub size : length (ps .steps) ≡ 99
-  pub steps : AllFit (ps .steps)
-
--- so do the steps of one pattern
-pub fit-drop : (k : ℕ) (ss : List Step) → AllFit ss → AllFit (drop k ss)
-fit-drop zero ss f = f
-fit-drop (suc k) [] f = f
-fit-drop (suc k) (s ∷ ss) f = fit-drop k ss (f .1)
-
-pub fit-take : (k : ℕ) (ss : List Step) → AllFit ss → AllFit (take k ss)
-fit-take zero ss f = tt
-fit-take (suc k) [] f = f
-fit-take (suc k) (s ∷ ss) f = (f .0, fit-take k ss (f .1))
+  pub steps : All StepFits (ps .steps)
 
 -- ---- in a program: whatever the borrow checker calls a value of the type
 
@@ -81,6 +67,10 @@ each-below w (x ∷ xs) (u ∷ us) h z (suc i) = each-below w xs us (h .1) z i
 
 four-of : (w : Width) (xs : List ℕ) (vs : List Val) → 0 < 2 ^ bits w → Is (Array (UInt w) 4) (map (λ v. v) xs) vs → Four (2 ^ bits w) xs
 four-of w xs vs z h = record { size = sym (length-map xs (λ v. v)) ∙ h .1 .0 .1; below = each-below w xs (h .0) (h .1 .1) z }
+
+-- as a parameter, and not as a field of a struct
+pub four-in : (w : Width) (xs : List ℕ) (vs : List Val) → 0 < 2 ^ bits w → Is (Array (UInt w) 4) xs vs → Four (2 ^ bits w) xs
+four-in w xs vs z h = four-of w xs vs z (subst (λ (ys : List ℕ). Is (Array (UInt w) 4) ys vs) (sym (map-id xs)) h)
 
 pub settings-fit : (s : Settings) (vs : List Val) → Is (row settings.the-type) s vs → SettingsFit s
 settings-fit s vs h =
@@ -104,25 +94,22 @@ settings-fit s vs h =
 pub fours : (s : Settings) (vs : List Val) → Is (row settings.the-type) s vs → Fours s
 fours s vs h = fours-of s (settings-fit s vs h)
 
-steps-fit : (ss : List Step) (us : List Val) → shadow (each (step.the-field .row .Denot) (step.the-field .row .own) (map (step.the-field .into) ss) us) → AllFit ss
+pub step-fits : (s : Step) (vs : List Val) → Is (row step.the-type) s vs → StepFits s
+step-fits s vs h =
+    let f = h .1 .1 in
+    record {
+      target = record { sfits = f .0 .1 };
+      minutes = f .1 .0 .1;
+      wait = f .1 .1 .0 .1;
+      signals = four-of w8 (s .signals) _ (omega arith) (f .1 .1 .1 .0);
+    }
+
+steps-fit : (ss : List Step) (us : List Val) → shadow (each (step.the-field .row .Denot) (step.the-field .row .own) (map (step.the-field .into) ss) us) → All StepFits ss
 steps-fit [] us h = tt
 steps-fit (s ∷ ss) [] h = absurd h
-steps-fit (s ∷ ss) (u ∷ us) h =
-    let f = h .0 .1 .1 in (
-      record {
-        target = record { sfits = f .0 .1 };
-        minutes = f .1 .0 .1;
-        wait = f .1 .1 .0 .1;
-        signals = four-of w8 (s .signals) _ (omega arith) (f .1 .1 .1 .0);
-      },
-      steps-fit ss us (h .1),
-    )
-
--- there are 99 steps
-pub all-steps : (ps : Patterns) (vs : List Val) → Is (row patterns.the-type) ps vs → length (ps .steps) ≡ 99
-all-steps ps vs h = sym (length-map (ps .steps) _) ∙ h .1 .1 .1 .1 .0 .1 .0 .1
+steps-fit (s ∷ ss) (u ∷ us) h = (step-fits s (u ∷ []) (h .0), steps-fit ss us (h .1))
 
 pub patterns-fit : (ps : Patterns) (vs : List Val) → Is (row patterns.the-type) ps vs → PatternsFit ps
 patterns-fit ps vs h =
     let a = h .1 .1 .1 .1 .0 in
-    record { size = all-steps ps vs h; steps = steps-fit (ps .steps) (a .0) (a .1 .1) }
+    record { size = sym (length-map (ps .steps) _) ∙ a .1 .0 .1; steps = steps-fit (ps .steps) (a .0) (a .1 .1) }

@@ -7,7 +7,7 @@ use mir.Syntax.{w16}
 use mir.Val.{ofZ}
 use Rattle.field.specs.Row.{row}
 use Rattle.bank.specs.View.{Pattern}
-use Rattle.bank.specs.declared.Settings.{Settings}
+use Rattle.setting.specs.declared.Settings.{Settings}
 use Rattle.bank.specs.declared.Step.{Step}
 
 -- n, start, outage choice (a byte each), SLL, SLH, start value (signed 16 bits), outage width, F, four pairs of wait zone and wait

@@ -1,3 +1,4 @@
 -- The definitions that the contracts of `writer` cite.
+pub mod Read
 pub mod Encode
 pub mod Write

@@ -2,20 +2,24 @@
 -- Assumes nothing.
 use Prim.Native.Nat.{ℕ, zero, suc, _+_}
 use mathlib.Core.Bool.{Bool, cond}
+use mathlib.Core.Path.{_≡_}
 use mathlib.Core.List.{List, [], _∷_}
 use lib.Dec.{leb}
 use lib.ListN.{length, getD, take, drop}
 use lib.Seq.{sets}
 use Rattle.bank.specs.Capacity.{capacityOf}
 use Rattle.bank.specs.View.{Pattern}
-use Rattle.bank.specs.Check.{numbersOf, then, settingsFound, bodiesFound}
-use Rattle.bank.specs.declared.Settings.{Settings}
-use Rattle.bank.specs.declared.Step.{Step}
-use Rattle.bank.specs.declared.Patterns.{Patterns}
-use Rattle.bank.specs.declared.Checked.{Checked}
-use Rattle.bank.specs.declared.Checked.the-variants.{Accepted, Short, Setting, Pair, Body}
+use Rattle.setting.specs.Found.{numbersOf, unless, then}
+use Rattle.setting.specs.Setting.{settingsFound}
+use Rattle.bank.specs.Check.{bodiesFound, foundIn}
+use Rattle.setting.specs.declared.Settings.{Settings}
+use Rattle.setting.specs.declared.Checked.{Checked}
+use Rattle.setting.specs.declared.Checked.the-variants.{Accepted}
 use Rattle.writer.specs.declared.Written.{Written}
 use Rattle.writer.specs.declared.Written.the-variants.{Length, Refused, Full}
+use Rattle.writer.specs.declared.Patterns.{Patterns}
+use Rattle.writer.specs.declared.Bank.{Bank}
+use Rattle.writer.specs.Read.{laidOut, readOf}
 use Rattle.writer.specs.Encode.{encode}
 
 -- the document's number and values of each case; 0 with the length is accepted, 15 is a buffer too short
@@ -25,12 +29,12 @@ writtenNumbers (Refused found) = numbersOf found
 writtenNumbers Full = 15 ∷ []
 
 -- what a call leaves: its answer's numbers and the buffer
-pub record Left : Type 0 where
+pub record After : Type 0 where
   pub numbers : List ℕ
   pub bytes : List ℕ
 
-abbrev pub left : Written → List ℕ → Left
-left w out = record { numbers = writtenNumbers w; bytes = out }
+abbrev pub after : Written → List ℕ → After
+after w out = record { numbers = writtenNumbers w; bytes = out }
 
 -- the patterns that the writer takes: m of them from place p on, whose steps stand from place base on
 unfoldable pub takenFrom : Patterns → ℕ → ℕ → ℕ → List Pattern
@@ -52,13 +56,21 @@ unfoldable pub wrongIn : Settings → List Pattern → Checked
 wrongIn s ps = then (settingsFound s) (bodiesFound (withinCapacity (s .patterns)) (s .low) (s .high) 1 ps)
 
 -- a refusal leaves the buffer, and so does 15; else the bank stands at the buffer's front, and the bytes past its end are untouched
-unfoldable pub writeAs : Checked → List ℕ → List ℕ → Left
-writeAs Accepted bank out =
-    cond (leb (length bank) (length out)) (left (Length (length bank)) (sets out 0 bank)) (left Full out)
-writeAs Short bank out = left (Refused Short) out
-writeAs (Setting o) bank out = left (Refused (Setting o)) out
-writeAs (Pair i) bank out = left (Refused (Pair i)) out
-writeAs (Body p k) bank out = left (Refused (Body p k)) out
+unfoldable pub writeAs : Checked → List ℕ → List ℕ → After
+writeAs found bank out =
+    unless found (λ f. after (Refused f) out)
+    (cond (leb (length bank) (length out)) (after (Length (length bank)) (sets out 0 bank)) (after Full out))
 
-unfoldable pub writeOf : Settings → Patterns → List ℕ → Left
+unfoldable pub writeOf : Settings → Patterns → List ℕ → After
 writeOf s ps out = writeAs (wrongIn s (takenOf s ps)) (encode s (takenOf s ps)) out
+
+-- "a bank it wrote reads as what it took": where a length is answered, so many bytes at the front read as the settings and the n patterns
+unfoldable pub takenBank : Settings → Patterns → Bank
+takenBank s ps = record { found = Accepted; settings = s; patterns = laidOut (takenOf s ps) }
+
+abbrev pub ReadsBack : Settings → Patterns → Written → List ℕ → Type 0
+ReadsBack s ps w out = (n : ℕ) → w ≡ Length n → readOf (take n out) ≡ takenBank s ps
+
+-- "an accepted bank written again has the same bytes"; a bank that is not accepted gives its refusal
+unfoldable pub rewriteOf : List ℕ → List ℕ → After
+rewriteOf bank out = writeAs (foundIn bank) bank out

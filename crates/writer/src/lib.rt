@@ -1,17 +1,34 @@
-// The writer of a bank.
+// A bank as arrays: written from them, and read into them.
+use crate::copy::patterns;
+use crate::copy::refused;
 use crate::pattern::check_patterns;
 use crate::pattern::count_steps;
 use crate::put::put_bank;
-use crate::put::wide;
-use bank::Checked;
-use bank::Patterns;
-use bank::Settings;
-use bank::check_settings;
+use bank::Step;
+use setting::Checked;
+use setting::Settings;
+use setting::check_settings;
 ghost use mathlib.Core.Path.{_≡_};
-ghost use Rattle.writer.specs.Write.{left, writeOf};
+ghost use Rattle.writer.specs.Read.{given, readOf};
+ghost use Rattle.writer.specs.Write.{after, writeOf, ReadsBack, rewriteOf};
 
+mod copy;
 mod pattern;
 mod put;
+
+// The patterns of a bank: runs and count (s) of each, and the steps, those of pattern 1 first.
+pub struct Patterns {
+    pub runs: [u8; 15],
+    pub counts: [u8; 15],
+    pub steps: [Step; 99],
+}
+
+// What reading a bank gives: what its check finds and, of an accepted bank, its settings and patterns.
+pub struct Bank {
+    pub found: Checked,
+    pub settings: Settings,
+    pub patterns: Patterns,
+}
 
 // What writing a bank gives. `writtenNumbers` gives the document's number and values of each case.
 pub enum Written {
@@ -21,9 +38,10 @@ pub enum Written {
 }
 
 // The bank of settings and patterns is written at the front of a buffer. A refusal leaves the buffer, and bytes past the bank's end
-// stay.
+// stay. What was written reads as what was taken.
 pub fn write(s: Settings, ps: Patterns, out: &mut [u8]) -> Written
-    ensures { λ r. ⌜ left r (now (out .exit)) ≡ writeOf s ps (now (out .entry)) ⌝ }
+    ensures { λ r. ⌜ after r (now (out .exit)) ≡ writeOf s ps (now (out .entry)) ⌝ }
+    ensures { λ r. ⌜ ReadsBack s ps r (now (out .exit)) ⌝ }
 {
     let settings = check_settings(s);
     let Checked::Accepted = settings else {
@@ -33,10 +51,39 @@ pub fn write(s: Settings, ps: Patterns, out: &mut [u8]) -> Written
     let Checked::Accepted = patterns else {
         return Written::Refused(patterns);
     };
-    let size = 45 + 6 * wide(s.patterns) + 9 * count_steps(s, ps);
+    let size = 45 + 6 * (s.patterns as usize) + 9 * count_steps(s, ps);
     if out.len() < size {
         return Written::Full;
     }
     put_bank(out, s, ps);
     Written::Length(size as u16)
+}
+
+// A bank read: its settings and patterns, or its refusal and nothing.
+pub fn read(bank: &[u8]) -> Bank
+    ensures { λ r. ⌜ given r ≡ given (readOf (now (bank .entry))) ⌝ }
+{
+    let found = bank::check(bank);
+    let Checked::Accepted = found else {
+        return refused(found);
+    };
+    let settings = setting::read_settings(bank);
+    let patterns = patterns(bank, settings.patterns);
+    Bank {
+        found,
+        settings,
+        patterns,
+    }
+}
+
+// A bank is read, and written again at the front of a buffer: an accepted one has the same bytes there, any other gives its refusal.
+pub fn rewrite(bank: &[u8], out: &mut [u8]) -> Written
+    ensures { λ r. ⌜ after r (now (out .exit)) ≡ rewriteOf (now (bank .entry)) (now (out .entry)) ⌝ }
+{
+    let whole = read(bank);
+    let judged = whole.found;
+    let Checked::Accepted = judged else {
+        return Written::Refused(judged);
+    };
+    write(whole.settings, whole.patterns, out)
 }

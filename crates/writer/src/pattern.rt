@@ -1,24 +1,15 @@
 // The patterns that a writer is handed: their check, and the number of their steps.
 ghost use mathlib.Core.Path.{_≡_};
-ghost use lib.Dec.{leb};
 ghost use lib.ListN.{length};
-ghost use Rattle.bank.specs.Range.{both};
-ghost use Rattle.bank.specs.Read.{allSteps};
-ghost use Rattle.bank.specs.Check.{settingsFound, bodiesFound};
+ghost use Rattle.writer.specs.Read.{allSteps};
+ghost use Rattle.setting.specs.Setting.{settingsFound};
+ghost use Rattle.bank.specs.Check.{bodiesFound};
 ghost use Rattle.writer.specs.Write.{takenOf, withinCapacity, wrongIn};
-use crate::put::wide;
-use bank::Checked;
-use bank::Patterns;
-use bank::Settings;
+use crate::Patterns;
 use bank::capacity;
 use bank::check_step;
-
-// Whether a pattern has right runs, and a number of steps within the capacity.
-fn start_right(runs: u8, count: u8, most: u8) -> bool
-    ensures { λ r. ⌜ r ≡ both (leb runs 99) (leb count most) ⌝ }
-{
-    if runs <= 99 { count <= most } else { false }
-}
+use setting::Checked;
+use setting::Settings;
 
 // The n patterns: the first wrong field ends both loops, with its place.
 pub fn check_patterns(s: Settings, ps: Patterns) -> Checked
@@ -26,9 +17,6 @@ pub fn check_patterns(s: Settings, ps: Patterns) -> Checked
     ensures { λ r. ⌜ r ≡ bodiesFound (withinCapacity (s .patterns)) (s .low) (s .high) 1 (takenOf s ps) ⌝ }
 {
     let n = s.patterns;
-    let runs = ps.runs;
-    let counts = ps.counts;
-    let steps = ps.steps;
     let most = capacity(n);
     let mut base: usize = 0;
     let mut p: u8 = 0;
@@ -36,14 +24,14 @@ pub fn check_patterns(s: Settings, ps: Patterns) -> Checked
         if n <= p {
             break 'walk Checked::Accepted;
         }
-        let i = wide(p);
-        if !start_right(runs[i], counts[i], most) {
+        let i = p as usize;
+        if !((ps.runs[i] <= 99) & (ps.counts[i] <= most)) {
             break 'walk Checked::Body(p + 1, 0);
         }
-        let count = wide(counts[i]);
+        let count = ps.counts[i] as usize;
         let mut k: usize = 0;
         while k < count {
-            let step = steps[base + k];
+            let step = ps.steps[base + k];
             if !check_step(s.low, s.high, step) {
                 break 'walk Checked::Body(p + 1, (k + 1) as u8);
             }
@@ -59,12 +47,11 @@ pub fn count_steps(s: Settings, ps: Patterns) -> usize
     requires { ⌜ wrongIn s (takenOf s ps) ≡ Checked.Accepted ⌝ }
     ensures { λ r. ⌜ r ≡ length (allSteps (takenOf s ps)) ⌝ }
 {
-    let n = wide(s.patterns);
-    let counts = ps.counts;
+    let n = s.patterns as usize;
     let mut base: usize = 0;
     let mut p: usize = 0;
     while p < n {
-        base += wide(counts[p]);
+        base += ps.counts[p] as usize;
         p += 1;
     }
     base

@@ -1,36 +1,18 @@
 // The parts of a bank, written one after the other into a buffer that has room for it.
 ghost use mathlib.Core.Path.{_≡_};
-ghost use mathlib.Core.List.{[], _∷_};
+ghost use mathlib.Core.List.{[], _∷_, _++_};
 ghost use Prim.Native.Nat.{_+_, _*_, _≤_};
 ghost use lib.ListN.{length, take, drop, replicate};
 ghost use lib.Seq.{sets};
 ghost use Rattle.field.specs.Row.{row};
 ghost use Rattle.writer.specs.Encode.{settingWidths, settingNumbers, paired, stepWidths, stepNumbers, stepsBytes, bodiesBytes, pairsBytes, encode};
 ghost use Rattle.writer.specs.Write.{takenOf, wrongIn};
-use bank::Checked;
-use bank::Patterns;
-use bank::Settings;
+use crate::Patterns;
 use bank::Step;
 use field::bits;
 use field::put_row;
-
-pub fn wide(x: u8) -> usize
-    ensures { λ r. ⌜ r ≡ x ⌝ }
-{
-    x as usize
-}
-
-fn long8(x: u8) -> u32
-    ensures { λ r. ⌜ r ≡ x ⌝ }
-{
-    x as u32
-}
-
-fn long16(x: u16) -> u32
-    ensures { λ r. ⌜ r ≡ x ⌝ }
-{
-    x as u32
-}
+use setting::Checked;
+use setting::Settings;
 
 // The settings up to the filter constant.
 fn put_head(out: &mut [u8], s: Settings)
@@ -39,14 +21,14 @@ fn put_head(out: &mut [u8], s: Settings)
 {
     let widths = [1u8, 1, 1, 2, 2, 2, 2, 2];
     let numbers = [
-        long8(s.patterns),
-        long8(s.start),
-        long8(s.outage),
-        long16(bits(s.low)),
-        long16(bits(s.high)),
-        long16(bits(s.initial)),
-        long16(s.width),
-        long16(s.filter),
+        s.patterns as u32,
+        s.start as u32,
+        s.outage as u32,
+        bits(s.low) as u32,
+        bits(s.high) as u32,
+        bits(s.initial) as u32,
+        s.width as u32,
+        s.filter as u32,
     ];
     put_row(out, 0, &widths, &numbers);
 }
@@ -58,14 +40,14 @@ fn put_halves(out: &mut [u8], at: usize, xs: [u16; 4], ys: [u16; 4])
 {
     let widths = [2u8; 8];
     let numbers = [
-        long16(xs[0]),
-        long16(ys[0]),
-        long16(xs[1]),
-        long16(ys[1]),
-        long16(xs[2]),
-        long16(ys[2]),
-        long16(xs[3]),
-        long16(ys[3]),
+        xs[0] as u32,
+        ys[0] as u32,
+        xs[1] as u32,
+        ys[1] as u32,
+        xs[2] as u32,
+        ys[2] as u32,
+        xs[3] as u32,
+        ys[3] as u32,
     ];
     put_row(out, at, &widths, &numbers);
 }
@@ -89,13 +71,12 @@ fn put_pairs(out: &mut [u8], s: Settings, ps: Patterns)
     requires { ⌜ (wrongIn s (takenOf s ps) ≡ Checked.Accepted) × (45 + 4 * s .patterns ≤ length (now out)) ⌝ }
     ensures { λ _. ⌜ now (out .exit) ≡ sets (now (out .entry)) 45 (pairsBytes (45 + 4 * s .patterns) (takenOf s ps)) ⌝ }
 {
-    let n = wide(s.patterns);
-    let counts = ps.counts;
+    let n = s.patterns as usize;
     let widths = [2u8, 2];
     let mut due = 45 + 4 * n;
     let mut p: usize = 0;
     while p < n {
-        let size = 2 + 9 * wide(counts[p]);
+        let size = 2 + 9 * (ps.counts[p] as usize);
         let next = due + size;
         let numbers = [due as u32, size as u32];
         put_row(out, 45 + 4 * p, &widths, &numbers);
@@ -109,29 +90,32 @@ fn put_step(out: &mut [u8], at: usize, s: Step)
     requires { ⌜ at + 9 ≤ length (now out) ⌝ }
     ensures { λ _. ⌜ now (out .exit) ≡ sets (now (out .entry)) at (row stepWidths (stepNumbers s)) ⌝ }
 {
-    let signals = s.signals;
     let widths = [2u8, 2, 1, 1, 1, 1, 1];
     let numbers = [
-        long16(bits(s.target)),
-        long16(s.minutes),
-        long8(s.wait),
-        long8(signals[0]),
-        long8(signals[1]),
-        long8(signals[2]),
-        long8(signals[3]),
+        bits(s.target) as u32,
+        s.minutes as u32,
+        s.wait as u32,
+        s.signals[0] as u32,
+        s.signals[1] as u32,
+        s.signals[2] as u32,
+        s.signals[3] as u32,
     ];
     put_row(out, at, &widths, &numbers);
 }
 
-// The steps of one pattern, which stand from place base on, at an offset.
-fn put_steps(out: &mut [u8], at: usize, steps: [Step; 99], base: usize, count: usize)
-    requires { ⌜ (base + count ≤ 99) × (at + 9 * count ≤ length (now out)) ⌝ }
-    ensures { λ _. ⌜ now (out .exit) ≡ sets (now (out .entry)) at (stepsBytes (take count (drop base steps))) ⌝ }
+// The body of a pattern, whose steps stand from place base on, at an offset.
+fn put_body(out: &mut [u8], at: usize, runs: u8, count: u8, steps: [Step; 99], base: usize)
+    requires { ⌜ (base + count ≤ 99) × (at + (2 + 9 * count) ≤ length (now out)) ⌝ }
+    ensures { λ _. ⌜ now (out .exit) ≡ sets (now (out .entry)) at (row (1 ∷ 1 ∷ []) (runs ∷ count ∷ []) ++ stepsBytes (take count (drop base steps))) ⌝ }
 {
+    let widths = [1u8, 1];
+    let numbers = [runs as u32, count as u32];
+    put_row(out, at, &widths, &numbers);
+    let s = count as usize;
     let mut k: usize = 0;
-    while k < count {
+    while k < s {
         let step = steps[base + k];
-        put_step(out, at + 9 * k, step);
+        put_step(out, at + 2 + 9 * k, step);
         k += 1;
     }
 }
@@ -141,21 +125,15 @@ fn put_bodies(out: &mut [u8], from: usize, s: Settings, ps: Patterns)
     requires { ⌜ (wrongIn s (takenOf s ps) ≡ Checked.Accepted) × (from + length (bodiesBytes (takenOf s ps)) ≤ length (now out)) ⌝ }
     ensures { λ _. ⌜ now (out .exit) ≡ sets (now (out .entry)) from (bodiesBytes (takenOf s ps)) ⌝ }
 {
-    let n = wide(s.patterns);
-    let runs = ps.runs;
-    let counts = ps.counts;
-    let steps = ps.steps;
-    let widths = [1u8, 1];
+    let n = s.patterns as usize;
     let mut at = from;
     let mut base: usize = 0;
     let mut p: usize = 0;
     while p < n {
-        let count = wide(counts[p]);
-        let numbers = [long8(runs[p]), long8(counts[p])];
-        put_row(out, at, &widths, &numbers);
-        put_steps(out, at + 2, steps, base, count);
-        at += 2 + 9 * count;
-        base += count;
+        let count = ps.counts[p];
+        put_body(out, at, ps.runs[p], count, ps.steps, base);
+        at += 2 + 9 * (count as usize);
+        base += count as usize;
         p += 1;
     }
 }
@@ -167,5 +145,5 @@ pub fn put_bank(out: &mut [u8], s: Settings, ps: Patterns)
 {
     put_settings(out, s);
     put_pairs(out, s, ps);
-    put_bodies(out, 45 + 4 * wide(s.patterns), s, ps);
+    put_bodies(out, 45 + 4 * (s.patterns as usize), s, ps);
 }

@@ -1,18 +1,22 @@
-//! Compares the static library, or the program `sheet`, with the outside model.
+//! Compares the static library, or the program `sheet` or `credits`, with the
+//! outside model.
 //!
-//! compare [--seed N] [--seconds N] [--sheet PROGRAM]
+//! compare [--seed N] [--seconds N] [--sheet PROGRAM | --credits PROGRAM]
 //!
 //! Without --seconds a fixed amount of work from a fixed seed; with it, random
 //! work until the time is up, from the given seed or a new one that it prints.
 
-use std::path::{Path, PathBuf};
+use std::io;
+use std::path::Path;
 use std::process::ExitCode;
+use std::thread;
 use std::time::{Duration, Instant, SystemTime, UNIX_EPOCH};
 
 use harness::calls::Comparer;
+use harness::programs::{self, Program};
 use harness::random::Random;
 use harness::report::Compared;
-use harness::{cook_cuts, hostile, lists, sheet, states, walk, writer};
+use harness::{cook_cuts, hostile, lists, states, walk, writer};
 
 /// Seed of the fixed amount of work.
 const SEED: u64 = 20_260_101;
@@ -29,21 +33,26 @@ const TREE_DEPTH: usize = 4;
 const DAMAGED: usize = 20;
 /// Longest list of the walk over every list.
 const WALK_DEPTH: usize = 6;
-/// Inputs of `sheet` in the fixed amount, and in one round of random work.
-const SHEETS: usize = 800;
-const SHEETS_A_ROUND: usize = 20;
+/// Inputs of a program in the fixed amount, and in one round of random work.
+const INPUTS: usize = 800;
+const INPUTS_A_ROUND: usize = 20;
 
 struct Options {
     seed: Option<u64>,
     seconds: Option<u64>,
-    sheet: Option<PathBuf>,
+    program: Option<Program>,
+}
+
+/// A program that is there.
+fn started(program: fn(&Path) -> io::Result<Program>, path: &str) -> Result<Program, String> {
+    program(Path::new(path)).map_err(|error| format!("{path} does not run: {error}"))
 }
 
 fn options() -> Result<Options, String> {
     let mut options = Options {
         seed: None,
         seconds: None,
-        sheet: None,
+        program: None,
     };
     let mut arguments = std::env::args().skip(1);
     while let Some(name) = arguments.next() {
@@ -58,7 +67,8 @@ fn options() -> Result<Options, String> {
         match name.as_str() {
             "--seed" => options.seed = Some(number()?),
             "--seconds" => options.seconds = Some(number()?),
-            "--sheet" => options.sheet = Some(PathBuf::from(&value)),
+            "--sheet" => options.program = Some(started(Program::sheet, &value)?),
+            "--credits" => options.program = Some(started(Program::credits, &value)?),
             _ => return Err(format!("{name} is not known")),
         }
     }
@@ -74,10 +84,11 @@ fn new_seed() -> u64 {
 }
 
 /// A part of the random work.
-type Part = fn(&mut Comparer, &mut Random) -> Compared;
+type Part = (&'static str, fn(&mut Comparer, &mut Random) -> Compared);
 
-/// The parts of the random work, each with the work of one round.
-const PARTS: [(&str, Part); 6] = [
+/// The parts of the random work, each with the work of one round; the lists take as long as all the others.
+const LISTS_PART: Part = ("random lists", |c, r| lists::compare(c, r, LISTS));
+const OTHER_PARTS: [Part; 5] = [
     ("random hostile banks", |c, r| {
         hostile::random_banks(c, r, HOSTILE_BANKS)
     }),
@@ -90,7 +101,6 @@ const PARTS: [(&str, Part); 6] = [
     ("random states and records", |c, r| {
         states::compare(c, r, STATE_BANKS)
     }),
-    ("random lists", |c, r| lists::compare(c, r, LISTS)),
     ("random trees of lists", |c, r| {
         walk::random_tree(c, r, TREE_DEPTH)
     }),
@@ -98,7 +108,8 @@ const PARTS: [(&str, Part); 6] = [
 
 /// One round of random work on every call.
 fn round(comparer: &mut Comparer, random: &mut Random) -> Compared {
-    PARTS
+    (LISTS_PART.1)(comparer, random)?;
+    OTHER_PARTS
         .iter()
         .try_for_each(|(_, part)| part(comparer, random))
 }
@@ -111,8 +122,20 @@ fn said<T>(what: &str, from: Instant, work: impl FnOnce() -> T) -> T {
     result
 }
 
-fn fixed_work(comparer: &mut Comparer, random: &mut Random) -> Compared {
-    let from = Instant::now();
+/// All rounds of a part.
+fn rounds(
+    (name, part): Part,
+    from: Instant,
+    comparer: &mut Comparer,
+    random: &mut Random,
+) -> Compared {
+    said(name, from, || {
+        (0..ROUNDS).try_for_each(|_| part(comparer, random))
+    })
+}
+
+/// All of the fixed work but the random lists.
+fn other_work(from: Instant, comparer: &mut Comparer, random: &mut Random) -> Compared {
     said("every list of the tree walk", from, || {
         walk::every_list(comparer, WALK_DEPTH)
     })?;
@@ -131,11 +154,23 @@ fn fixed_work(comparer: &mut Comparer, random: &mut Random) -> Compared {
     said("lists to the last pass", from, || {
         lists::to_the_last_pass(comparer, random)
     })?;
-    PARTS.iter().try_for_each(|(name, part)| {
-        said(name, from, || {
-            (0..ROUNDS).try_for_each(|_| part(comparer, random))
-        })
-    })
+    OTHER_PARTS
+        .into_iter()
+        .try_for_each(|part| rounds(part, from, comparer, random))
+}
+
+/// The fixed work, the random lists beside the rest, from a generator of their own.
+fn fixed_work(comparer: &mut Comparer, random: &mut Random) -> Compared {
+    let from = Instant::now();
+    let mut own = Random::new(random.bits());
+    let mut beside = Comparer::default();
+    let (others, listed) = thread::scope(|scope| {
+        let listed = scope.spawn(|| rounds(LISTS_PART, from, &mut beside, &mut own));
+        let others = other_work(from, comparer, random);
+        (others, listed.join())
+    });
+    comparer.tally.add(beside.tally);
+    others.and(listed.unwrap_or_else(|panic| std::panic::resume_unwind(panic)))
 }
 
 fn until(end: Instant, mut round: impl FnMut() -> Compared) -> Compared {
@@ -145,27 +180,24 @@ fn until(end: Instant, mut round: impl FnMut() -> Compared) -> Compared {
     Ok(())
 }
 
-fn sheet_work(
-    path: &Path,
+fn program_work(
+    program: &Program,
     end: Option<Instant>,
     comparer: &mut Comparer,
     random: &mut Random,
-) -> Result<(), String> {
-    let program = sheet::Program::new(path)
-        .map_err(|error| format!("{} does not run: {error}", path.display()))?;
-    let work = match end {
-        None => sheet::lengths(&program, comparer, random)
-            .and_then(|()| sheet::compare(&program, comparer, random, SHEETS)),
-        Some(end) => until(end, || {
-            sheet::compare(&program, comparer, random, SHEETS_A_ROUND)
-        }),
+) -> Compared {
+    let Some(end) = end else {
+        programs::lengths(program, comparer, random)?;
+        return programs::compare(program, comparer, random, INPUTS);
     };
-    work.map_err(|difference| difference.to_string())
+    until(end, || {
+        programs::compare(program, comparer, random, INPUTS_A_ROUND)
+    })
 }
 
 fn compare() -> Result<(), String> {
     let options = options().map_err(|message| {
-        format!("{message}\nusage: compare [--seed N] [--seconds N] [--sheet PROGRAM]")
+        format!("{message}\nusage: compare [--seed N] [--seconds N] [--sheet PROGRAM | --credits PROGRAM]")
     })?;
     let timed = options
         .seconds
@@ -176,15 +208,13 @@ fn compare() -> Result<(), String> {
     println!("seed {seed}");
     let (mut random, mut comparer) = (Random::new(seed), Comparer::default());
     let (random, comparer) = (&mut random, &mut comparer);
-    let work = match (&options.sheet, timed) {
-        (Some(path), end) => sheet_work(path, end, comparer, random),
-        (None, None) => fixed_work(comparer, random).map_err(|difference| difference.to_string()),
-        (None, Some(end)) => {
-            until(end, || round(comparer, random)).map_err(|difference| difference.to_string())
-        }
+    let work = match (&options.program, timed) {
+        (Some(program), end) => program_work(program, end, comparer, random),
+        (None, None) => fixed_work(comparer, random),
+        (None, Some(end)) => until(end, || round(comparer, random)),
     };
     print!("{}", comparer.tally);
-    work.map_err(|message| format!("{}\nseed: {seed}", message.trim_end()))?;
+    work.map_err(|difference| format!("{}\nseed: {seed}", difference.to_string().trim_end()))?;
     println!("no difference");
     Ok(())
 }

@@ -57,6 +57,16 @@ pub fn example_bank() -> Vec<u8> {
     bank(&settings(1), &[(1, &[step(600, 2), step(600, 1)])])
 }
 
+/// The bank of the sheet example with one byte changed.
+pub fn example_with(offset: usize, value: u8) -> Vec<u8> {
+    let mut bank = example_bank();
+    bank[offset] = value;
+    bank
+}
+
+/// Lines of any other form than those that bring an event.
+pub const OTHER_FORMS: &str = "| S|S |s|SS|N|N |N1|N  1|N H|T -|T +1|T 123456|T h|T H |R|C 1|S\r";
+
 pub const START: Event = Event::Command(Command::Start);
 
 pub fn tick(v: i32) -> Event {

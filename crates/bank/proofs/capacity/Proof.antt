@@ -1,17 +1,17 @@
 -- `bank::capacity` meets its contract: the quotient is tested at each of the fifteen entries, which antt computes.
 -- Assumes nothing.
 use mathlib.Core.Path.{_≡_, refl, sym, ap, _∙_}
-use Prim.Native.Nat.{ℕ, _+_, _*_, _-_, _/_, _≤_}
+use Prim.Native.Nat.{ℕ, _+_, _-_, _/_}
 use mathlib.Core.List.{List, [], _∷_}
 use native.Mathlib.Omega.{arith}
-use borrow.Author.Tests.{le-leb, lt-leb, eq-eqb, ne-eqb}
-use mathlib.Core.Bool.{Bool, true, false, cond}
-use lib.Dec.{leb, eqb, eqb→eq}
+use borrow.Author.Tests.{le-leb, lt-leb, eqb-true}
+use mathlib.Core.Bool.{Bool, cond}
+use lib.Dec.{leb, eqb}
 use lib.ListN.{getD}
-use Rattle.bank.specs.Range.{both, between}
+use Rattle.setting.specs.Range.{both, between}
 use Rattle.bank.specs.Capacity.{capacityOf}
 use Rattle.bank.proofs.Table.{at}
-use Rattle.bank.proofs.Laws.{on, off}
+use Rattle.setting.proofs.Laws.{on, off}
 use borrow.Author.Needs.{needs}
 use Rattle.bank.proofs.capacity.Statement.{statement}
 use Rattle.bank.proofs.capacity.Tie as tie
@@ -35,23 +35,14 @@ returns-2 c =
     let n = c .before .before .args .n in
     sym (ap (λ (t : Bool). cond t (99 / n) 0) (on (le-leb 1 n (omega arith)) ∙ lt-leb n 15 (omega arith)))
 
-wide-requires : tie.Need-wide-requires
-wide-requires c κs = search needs
-
-sub-result : tie.Need-sub-result
-sub-result c = search needs
-
-array-read-result : tie.Need-array-read-result
-array-read-result c = search needs
-
 returns-3 : tie.Need-returns-3
 unfolding table rule capacityOf between both
 returns-3 c =
-    let n = c .before .before .before .args .n in
-    let k = c .wide .result - 1 in
+    let n = c .before .before .args .n in
+    let k = n - 1 in
     let e : k + 1 ≡ n = omega arith in
-    eqb→eq (getD table k 0) (capacityOf (k + 1)) (at rule table tt k (omega arith)) ∙ ap capacityOf e
+    eqb-true (getD table k 0) (capacityOf (k + 1)) (at rule table refl k (omega arith)) ∙ ap capacityOf e
 
 pub capacity-spec : {M : Type 1} → statement M
 capacity-spec =
-    tie.close (tie.spec returns returns-2 wide-requires sub-result array-read-result returns-3)
+    tie.close (tie.spec returns returns-2 (λ c. search needs) (λ c. search needs) returns-3)

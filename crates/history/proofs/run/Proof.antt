@@ -1,23 +1,18 @@
 -- `history::run` meets its contract: the plain equation, and demand 3 of what the code leaves. Assumes nothing.
-use mathlib.Core.Path.{_≡_, sym, ap, _∙_}
+use mathlib.Core.Path.{sym, ap, _∙_}
 use denote.Ref.{now}
 use borrow.Author.Tests.{not-true, not-false}
 use Rattle.controller.specs.declared.State.{State}
 use Rattle.history.specs.declared.Reply.{Reply}
-use Rattle.controller.specs.Event.{After, left as after, eventsFrom}
+use Rattle.controller.specs.Event.{After, eventsFrom}
 use Rattle.controller.specs.Replay.{isAccepted}
 use Rattle.history.specs.Listed.{eventsIn}
-use Rattle.history.specs.Run.{Left, left, given}
-use Rattle.history.proofs.Ran.{is-accepted, is-refused, made-found, no-form, not-made, ran, run-demand}
+use Rattle.history.specs.Run.{left, given}
+use Rattle.controller.proofs.Cases.{is-accepted, is-refused}
+use Rattle.history.proofs.Ran.{made-found, no-form, not-made, ran, run-demand}
 use borrow.Author.Needs.{needs}
 use Rattle.history.proofs.run.Statement.{statement}
 use Rattle.history.proofs.run.Tie as tie
-use Rattle.history.proofs.run.Reads as reads
-use Rattle.history.proofs.run.Lts as lts
-use Rattle.controller.proofs.make.Reads as make-reads
-use Rattle.controller.proofs.dark_state.Reads as dark-state-reads
-use Rattle.history.proofs.listed.is_list.Reads as is-list-reads
-use Rattle.history.proofs.run_from.Reads as run-from-reads
 
 is-list-requires : tie.Need-is-list-requires
 is-list-requires c κs = search needs

@@ -10,10 +10,6 @@ use Rattle.history.specs.Listed.{eventAt, eventsIn}
 use Rattle.history.proofs.Walk.{rest, Begins, more-left, begins-next, events-first, run-more, run-end}
 use Rattle.history.proofs.run_from.Statement.{statement}
 use Rattle.history.proofs.run_from.Tie as tie
-use Rattle.history.proofs.run_from.Reads as reads
-use Rattle.history.proofs.run_from.Lts as lts
-use Rattle.controller.proofs.event_past.Reads as event-past-reads
-use Rattle.history.proofs.listed.event_at.Reads as event-at-reads
 
 abbrev Inv-loop : tie.InvT-loop
 Inv-loop bank store₀ events o₀ at₀ store o at =

@@ -1,137 +1,130 @@
--- `writer::write` meets its contract: 12, 14 and 15 in turn, else the bank.
+-- `writer::write` meets its contract: 12, 14 and 15 in turn, else the bank, which reads as what was taken.
 -- Assumes nothing.
 use mathlib.Core.Path.{_≡_, sym, ap, _∙_}
 use mathlib.Core.List.{List}
 use Prim.Native.Nat.{ℕ, _+_, _*_, _≤_}
 use native.Mathlib.Omega.{arith}
-use lib.ListN.{length}
 use denote.Ref.{now}
-use Rattle.bank.specs.Check.{settingsFound}
-use Rattle.bank.specs.declared.Checked.{Checked}
-use Rattle.bank.specs.declared.Checked.the-variants.{Accepted}
-use Rattle.bank.proofs.Laws.{numbers-tell, accepted, ends, goes}
-use Rattle.writer.specs.declared.Written.the-variants.{Length, Refused, Full}
+use lib.ListN.{length, take}
+use Rattle.setting.specs.Setting.{settingsFound}
+use Rattle.setting.specs.declared.Checked.{Checked}
+use Rattle.setting.specs.declared.Checked.the-variants.{Accepted}
+use Rattle.setting.proofs.Laws.{numbers-tell, accepted, is-refused, ends, goes}
+use Rattle.writer.specs.declared.Written.the-variants.{Length}
+use Rattle.writer.specs.Read.{readOf}
 use Rattle.writer.specs.Encode.{encode}
-use Rattle.writer.specs.Write.{takenOf, wrongIn, left, writeAs, writeOf}
-use Rattle.writer.proofs.Taken.{fit-of, length-taken, all-in}
-use Rattle.writer.proofs.Sizes.{length-all, length-bank}
-use Rattle.writer.proofs.Values.{all-steps, fours}
-use Rattle.writer.proofs.Writing.{refused-as, full-as, written-as}
-use borrow.Author.Needs.{needs}
+use Rattle.writer.specs.Write.{takenOf, wrongIn, after, writeAs, writeOf}
+use Rattle.writer.proofs.Values.{SettingsFit, settings-fit, PatternsFit, patterns-fit}
+use Rattle.writer.proofs.Answers.{refused-as, full-as, written-as, not-refused, not-full, same-length}
+use Rattle.writer.proofs.Found.{size-by}
+use Rattle.writer.proofs.Round.{reads-back}
 use Rattle.writer.proofs.write.Statement.{statement}
 use Rattle.writer.proofs.write.Tie as tie
+
+-- the bank that is written
+abbrev bank : tie.Start → List ℕ
+bank c = encode (c .args .s) (takenOf (c .args .s) (c .args .ps))
+
+settings-in : (c : tie.Start) → SettingsFit (c .args .s)
+settings-in c = settings-fit (c .args .s) _ (c .good .0)
+
+patterns-in : (c : tie.Start) → PatternsFit (c .args .ps)
+patterns-in c = patterns-fit (c .args .ps) _ (c .good .1 .0)
 
 settings-found : (c : tie.After-check-settings) → c .check-settings .result ≡ settingsFound (c .before .before .args .s)
 settings-found c = numbers-tell _ _ (c .check-settings .ensures)
 
 -- nothing is wrong
-right : (c : tie.After-enum-told2) → wrongIn (c .before .before .before .before .before .before .before .args .s) (takenOf (c .before .before .before .before .before .before .before .args .s) (c .before .before .before .before .before .before .before .args .ps)) ≡ Accepted
+right : (c : tie.After-enum-told2) →
+    let a = c .before .before .before .before .before .before .before .args in
+    wrongIn (a .s) (takenOf (a .s) (a .ps)) ≡ Accepted
 unfolding wrongIn
-right c = goes (settings-found (c .before .before .before .before .before)) (c .before .before .before .before .match .keys1) ∙ sym (c .before .before .check-patterns .ensures) ∙ accepted (c .before .before .check-patterns .result) (c .before .match2 .keys1)
+right c =
+    let patterns = c .before .before .check-patterns in
+    let first = goes (settings-found (c .before .before .before .before .before)) (c .before .before .before .before .match .keys1) in
+    first ∙ sym (patterns .ensures) ∙ accepted (patterns .result) (c .before .match2 .keys1)
 
--- at most 99 steps
-few : (c : tie.After-count-steps) → c .count-steps .result ≤ 99
-unfolding takenOf
-few c =
-    let a = c .before .before .before .before .before .before .before .before .before .args in
-    let fit = fit-of (a .s) (a .ps) (right (c .before .before)) in
-    omega (arith, c .count-steps .ensures, length-all (a .ps) (a .s .patterns) fit (all-steps (a .ps) _ (c .before .before .before .before .before .before .before .before .before .good .1 .0)), all-in (a .s .patterns) (a .ps .counts) fit (a .s .patterns) (omega arith))
-
--- the length of the bank
-size : (c : tie.After-count-steps) → 45 + 6 * c .before .wide .result + 9 * c .count-steps .result ≡ length (encode (c .before .before .before .before .before .before .before .before .before .args .s) (takenOf (c .before .before .before .before .before .before .before .before .before .args .s) (c .before .before .before .before .before .before .before .before .before .args .ps)))
-unfolding takenOf
+-- the length of the bank, and that there are at most 99 steps
+size : (c : tie.After-count-steps) →
+    let start = c .before .before .before .before .before .before .before .before .before in
+    let steps = c .count-steps .result in
+    (45 + 6 * start .args .s .patterns + 9 * steps ≡ length (bank start)) × (steps ≤ 99)
 size c =
-    let a = c .before .before .before .before .before .before .before .before .before .args in
-    omega (arith, c .count-steps .ensures, c .before .wide .ensures, length-taken (a .ps) 0 0 (a .s .patterns), length-bank (a .s) (takenOf (a .s) (a .ps)) (fours (a .s) _ (c .before .before .before .before .before .before .before .before .before .good .0)))
-
-check-settings-requires : tie.Need-check-settings-requires
-check-settings-requires c κs = search needs
-
-enum-told : tie.Need-enum-told
-enum-told c = search needs
+    let start = c .before .before .before .before .before .before .before .before .before in
+    size-by (start .args .s) (start .args .ps) (settings-in start) (patterns-in start) (right (c .before .before)) (c .count-steps .ensures)
 
 returns : tie.Need-returns
 unfolding writeOf wrongIn
 returns c =
-    let a = c .before .before .before .args in
+    let start = c .before .before .before in
+    let out = now (start .args .out) in
     let r = c .before .check-settings .result in
-    let bank = encode (a .s) (takenOf (a .s) (a .ps)) in
-    sym (ap (λ (f : Checked). writeAs f bank (now (a .out))) (ends _ (settings-found (c .before)) (c .match .keys2)) ∙ refused-as r bank (now (a .out)) (c .match .keys2))
+    let first = ends _ (settings-found (c .before)) (c .match .keys2) in (
+      sym (ap (λ (f : Checked). writeAs f (bank start) out) first ∙ refused-as (bank start) out r (is-refused r (c .match .keys2))),
+      λ n e. absurd (not-refused r n e),
+    )
 
 check-patterns-requires : tie.Need-check-patterns-requires
 check-patterns-requires c κs = sym (settings-found (c .before .before)) ∙ accepted (c .before .before .check-settings .result) (c .before .match .keys1)
 
-enum-told-2 : tie.Need-enum-told-2
-enum-told-2 c = search needs
-
 returns-2 : tie.Need-returns-2
 unfolding writeOf wrongIn
 returns-2 c =
-    let a = c .before .before .before .before .before .before .args in
-    let r = c .before .check-patterns .result in
-    let bank = encode (a .s) (takenOf (a .s) (a .ps)) in
-    sym (ap (λ (f : Checked). writeAs f bank (now (a .out))) (goes (settings-found (c .before .before .before .before)) (c .before .before .before .match .keys1) ∙ sym (c .before .check-patterns .ensures)) ∙ refused-as r bank (now (a .out)) (c .match2 .keys2))
-
-wide-requires : tie.Need-wide-requires
-wide-requires c κs = search needs
-
-mul-size : tie.Need-mul-size
-mul-size c = search needs
-
-add-size : tie.Need-add-size
-add-size c = search needs
+    let start = c .before .before .before .before .before .before in
+    let out = now (start .args .out) in
+    let patterns = c .before .check-patterns in
+    let r = patterns .result in
+    let second = goes (settings-found (c .before .before .before .before)) (c .before .before .before .match .keys1) ∙ sym (patterns .ensures) in (
+      sym (ap (λ (f : Checked). writeAs f (bank start) out) second ∙ refused-as (bank start) out r (is-refused r (c .match2 .keys2))),
+      λ n e. absurd (not-refused r n e),
+    )
 
 count-steps-requires : tie.Need-count-steps-requires
 count-steps-requires c κs = right (c .before)
 
-mul-size-2 : tie.Need-mul-size-2
-mul-size-2 c = omega (arith, few (c))
-
-add-size-2 : tie.Need-add-size-2
-add-size-2 c = omega (arith, few (c))
-
 returns-3 : tie.Need-returns-3
 unfolding writeOf
 returns-3 c =
-    let a = c .before .before .before .before .before .before .before .before .before .before .args in
-    let bank = encode (a .s) (takenOf (a .s) (a .ps)) in
-    sym (ap (λ (f : Checked). writeAs f bank (now (a .out))) (right (c .before .before .before)) ∙ full-as bank (now (a .out)) (omega (arith, size (c .before))))
+    let start = c .before .before .before .before .before .before .before .before .before .before in
+    (sym (full-as (bank start) (now (start .args .out)) (right (c .before .before .before)) (omega (arith, size (c .before) .0))), λ n e. absurd (not-full n e))
 
 put-bank-requires : tie.Need-put-bank-requires
-put-bank-requires c κs = (right (c .before .before .before .before), omega (arith, size (c .before .before)))
-
-cast-t16 : tie.Need-cast-t16
-cast-t16 c = omega (arith, few (c .before .before .before .before .before))
-
-same-length : tie.Need-same-length
-same-length c = search needs
+put-bank-requires c κs = (right (c .before .before .before .before), omega (arith, size (c .before .before) .0))
 
 returns-4 : tie.Need-returns-4
 unfolding writeOf
 returns-4 c =
-    let a = c .before .before .before .before .before .before .before .before .before .before .before .before .before .before .args in
-    let bank = encode (a .s) (takenOf (a .s) (a .ps)) in
-    (λ i. left (Length (size (c .before .before .before .before .before) i)) (c .before .before .put-bank .ensures i))
-    ∙ sym (ap (λ (f : Checked). writeAs f bank (now (a .out))) (right (c .before .before .before .before .before .before .before)) ∙ written-as bank (now (a .out)) (omega (arith, size (c .before .before .before .before .before))))
+    let start = c .before .before .before .before .before .before .before .before .before .before .before .before .before .before in
+    let s = start .args .s in
+    let out = now (start .args .out) in
+    let ok = right (c .before .before .before .before .before .before .before) in
+    let long = size (c .before .before .before .before .before) .0 in
+    let put = c .before .before .put-bank .ensures in
+    let room : length (bank start) ≤ length out = omega (arith, long) in (
+      (λ i. after (Length (long i)) (put i)) ∙ sym (written-as (bank start) out ok room),
+      λ n e.
+          ap (λ (x : List ℕ). readOf (take n x)) put
+          ∙ reads-back s (start .args .ps) (settings-in start) (patterns-in start) ok out n room (sym long ∙ same-length e),
+    )
 
 pub write-spec : {M : Type 1} → statement M
 write-spec =
     tie.close
     (tie.spec
-    check-settings-requires
-    enum-told
+    (λ c κs. tt)
+    (λ c. omega arith)
     returns
     check-patterns-requires
-    enum-told-2
+    (λ c. omega arith)
     returns-2
-    wide-requires
-    mul-size
-    add-size
+    (λ c. omega arith)
+    (λ c. omega arith)
+    (λ c. omega arith)
     count-steps-requires
-    mul-size-2
-    add-size-2
+    (λ c. omega (arith, size c .1))
+    (λ c. omega (arith, size c .1))
     returns-3
     put-bank-requires
-    cast-t16
-    same-length
+    (λ c. omega (arith, size (c .before .before .before .before .before) .1))
+    (λ c. omega arith)
     returns-4)

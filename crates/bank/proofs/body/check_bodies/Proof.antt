@@ -1,22 +1,29 @@
 -- `bank::body::check_bodies` meets its contract. The invariants: all the patterns are found to be what the rest of them is found to be; inside, what the rest
--- of the steps, and then the rest of the patterns, are found to be.
+-- of the steps, and then the rest of the patterns, are found to be. The body lies in the bank.
 -- Assumes nothing.
-use mathlib.Core.Path.{_≡_, refl, sym, ap, _∙_}
-use Prim.Native.Nat.{ℕ, _+_, _*_, _-_, _/_, _≤_}
+use Prim.Native.Nat.{ℕ, _+_, _*_, _-_, _≤_}
+use mathlib.Core.Path.{_≡_, sym, ap, _∙_}
+use mathlib.Core.Bool.{Bool}
 use mathlib.Core.List.{List}
-use lib.IntN.{ℤ}
+use borrow.Author.Tests.{not-true, not-false}
 use native.Mathlib.Omega.{arith}
 use denote.Ref.{now}
 use borrow.Author.Needs.{needs}
+use lib.IntN.{ℤ}
+use lib.ListN.{length}
 use mir.Syntax.{w16}
 use mir.Val.{SFits, toZ, ofZ}
 use mir.Facts.{toZ-ofZ}
-use Rattle.bank.proofs.Laws.{right, wrong, refused, passed, next, stop}
-use Rattle.bank.proofs.Walk.{restSteps, steps-more, steps-end, restBodies, bodies-start, bodies-more, bodies-end, startRight, start-count}
-use Rattle.bank.specs.declared.Checked.{Checked}
-use Rattle.bank.specs.Check.{then, bodiesFound, ofLength, stepRight}
 use Rattle.field.proofs.Laws.{field-below}
-use Rattle.bank.specs.View.{tab, offsetOf, lengthOf, stepsIn, stepAt, patternAt}
+use Rattle.setting.proofs.Laws.{right, wrong, refused, passed, next, stop}
+use Rattle.bank.proofs.Walk.{restSteps, steps-more, steps-end, restBodies, bodies-start, bodies-more, bodies-end, startRight, start-count}
+use Rattle.bank.proofs.Facts.{pairs-there, pairs-fit}
+use Rattle.bank.specs.View.{offsetOf, lengthOf, stepsIn, patternAt}
+use Rattle.field.specs.Tab.{tab}
+use Rattle.setting.specs.Found.{test, then}
+use Rattle.bank.specs.Check.{bodiesFound, ofLength, stepRight}
+use Rattle.setting.specs.declared.Checked.{Checked}
+use Rattle.setting.specs.declared.Checked.the-variants.{Body}
 use Rattle.bank.proofs.body.check_bodies.Statement.{statement}
 use Rattle.bank.proofs.body.check_bodies.Tie as tie
 
@@ -25,7 +32,7 @@ whole bank n low high = bodiesFound ofLength low high 1 (tab (patternAt bank) 1 
 
 abbrev Inv-loop : tie.InvT-loop
 Inv-loop bank n low high p at s k₀ k =
-    (k ≤ s) × (s ≤ 255)
+    (k ≤ s) × (s ≤ 255) × (at + 2 + 9 * s ≤ length bank)
     × (whole bank n (toZ w16 low) (toZ w16 high) ≡ then (restSteps (toZ w16 low) (toZ w16 high) bank p at s k) (restBodies (toZ w16 low) (toZ w16 high) bank n (p + 1)))
 
 abbrev μ-loop : tie.MeasureT-loop
@@ -40,139 +47,120 @@ abbrev μ-walk : tie.MeasureT-walk
 same : (bank : List ℕ) (n : ℕ) {low high : ℤ} → SFits w16 low → SFits w16 high → whole bank n low high ≡ whole bank n (toZ w16 (ofZ w16 low)) (toZ w16 (ofZ w16 high))
 same bank n l h = λ i. whole bank n (sym (toZ-ofZ l) i) (sym (toZ-ofZ h) i)
 
+-- the body of a pair that is right lies in the bank
+body-inside : (c : tie.After-body-in Inv-loop μ-loop Inv-walk μ-walk)
+    → (c .body-in .result .len ≡ 2 + 9 * stepsIn (c .body-in .result .len)) × (c .body-in .result .at + c .body-in .result .len ≤ length (now (c .before .before .before .before .args .bank)))
+body-inside c =
+    let start = c .before .before .before .before in
+    let fit = pairs-fit (now (start .args .bank)) (start .args .n) (start .pre) (c .before .before .walk .p + 1) (omega arith) (omega arith) in
+    let body = c .body-in .ensures in
+    (omega (arith, fit .size, body .len), omega (arith, fit .inside, body .at, body .len))
+
+-- what the call of `body_right` says, of the bank itself
 said : (c : tie.After-body-right Inv-loop μ-loop Inv-walk μ-walk) →
-    let bank = now (c .before .before .before .before .before .before .args .bank) in
+    let b = now (c .before .before .before .before .before .before .args .bank) in
     let p = c .before .before .before .before .walk .p + 1 in
-    c .body-right .result ≡ startRight bank (offsetOf bank p) (stepsIn (lengthOf bank p))
+    c .body-right .result ≡ startRight b (offsetOf b p) (stepsIn (lengthOf b p))
 unfolding startRight
 said c =
-    let bank = now (c .before .before .before .before .before .before .args .bank) in
-    c .body-right .ensures ∙ (λ i. startRight bank (c .before .before .offset-of .ensures .0 i) (c .before .steps-of .ensures .0 i))
+    let body = c .before .before .body-in .ensures in
+    c .body-right .ensures
+    ∙ (λ i. startRight (now (c .before .before .before .before .before .before .args .bank)) (body .at i) ((c .before .steps-in .ensures ∙ ap stepsIn (body .len)) i))
 
-step : (c : tie.After-step-right Inv-loop μ-loop Inv-walk μ-walk)
-    → c .step-right .result
-    ≡ stepRight (toZ w16 (ofZ w16 (c .before .before .before .before .before .before .before .before .before .before .before .args .low))) (toZ w16 (ofZ w16 (c .before .before .before .before .before .before .before .before .before .before .before .args .high))) (stepAt (now (c .before .before .before .before .before .before .before .before .before .before .before .args .bank)) (c .before .before .before .before .before .before .before .offset-of .result + 2 + 9 * c .before .before .before .loop .k))
-step c = c .step-right .ensures ∙ ap (stepRight _ _) (c .before .step-at .ensures)
+-- a turn takes the first of the steps off
+turn : (c : tie.After-check-step Inv-loop μ-loop Inv-walk μ-walk) →
+    let start = c .before .before .before .before .before .before .before .before .before .before .before in
+    let w = c .before .before .before .before .before .before .before .before .before .walk in
+    let at = c .before .before .before .before .before .before .before .body-in .result .at in
+    let s = c .before .before .before .before .before .before .steps-in .result in
+    let l = c .before .before .before .loop in
+    let low = toZ w16 (ofZ w16 (start .args .low)) in
+    let high = toZ w16 (ofZ w16 (start .args .high)) in
+    let b = now (start .args .bank) in
+    restSteps low high b (w .p) at s (l .k) ≡ test (c .check-step .result) (Body (w .p + 1) (l .k + 1)) (restSteps low high b (w .p) at s (l .k + 1))
+turn c =
+    let start = c .before .before .before .before .before .before .before .before .before .before .before in
+    let w = c .before .before .before .before .before .before .before .before .before .walk in
+    let at = c .before .before .before .before .before .before .before .body-in .result .at in
+    let s = c .before .before .before .before .before .before .steps-in .result in
+    let l = c .before .before .before .loop in
+    let low = toZ w16 (ofZ w16 (start .args .low)) in
+    let high = toZ w16 (ofZ w16 (start .args .high)) in
+    let b = now (start .args .bank) in
+    let said = c .check-step .ensures ∙ ap (stepRight low high) (c .before .step-in .ensures) in
+    steps-more low high b (w .p) at s (l .k) (c .before .before .loop-test .taken)
+    ∙ ap (λ (t : Bool). test t (Body (w .p + 1) (l .k + 1)) (restSteps low high b (w .p) at s (l .k + 1))) (sym said)
 
 walk-holds : tie.Need-walk-holds Inv-loop μ-loop Inv-walk μ-walk
 walk-holds c = (omega arith, bodies-start _ _ (now (c .before .args .bank)) (c .before .args .n))
 
-add-offset-of : tie.Need-add-offset-of Inv-loop μ-loop Inv-walk μ-walk
-add-offset-of c = search needs
-
-offset-of-requires : tie.Need-offset-of-requires Inv-loop μ-loop Inv-walk μ-walk
-offset-of-requires c κs = search needs
-
-add-steps-of : tie.Need-add-steps-of Inv-loop μ-loop Inv-walk μ-walk
-add-steps-of c = search needs
-
-steps-of-requires : tie.Need-steps-of-requires Inv-loop μ-loop Inv-walk μ-walk
-steps-of-requires c κs = search needs
+body-in-requires : tie.Need-body-in-requires Inv-loop μ-loop Inv-walk μ-walk
+body-in-requires c κs =
+    let start = c .before .before .before in
+    omega (arith, pairs-there (now (start .args .bank)) (start .args .n) (start .pre))
 
 body-right-requires : tie.Need-body-right-requires Inv-loop μ-loop Inv-walk μ-walk
-body-right-requires c κs = search needs
-
-add-t13 : tie.Need-add-t13 Inv-loop μ-loop Inv-walk μ-walk
-add-t13 c = search needs
+body-right-requires c κs = omega (arith, body-inside (c .before))
 
 loop-holds : tie.Need-loop-holds Inv-loop μ-loop Inv-walk μ-walk
 loop-holds c =
-    let low = toZ w16 (ofZ w16 (c .before .before .before .before .before .before .before .args .low)) in
-    let high = toZ w16 (ofZ w16 (c .before .before .before .before .before .before .before .args .high)) in
-    let bank = now (c .before .before .before .before .before .before .before .args .bank) in
+    let start = c .before .before .before .before .before .before .before in
+    let body-in = c .before .before .before .body-in in
+    let low = toZ w16 (ofZ w16 (start .args .low)) in
+    let high = toZ w16 (ofZ w16 (start .args .high)) in
+    let b = now (start .args .bank) in
+    let n = start .args .n in
     let w = c .before .before .before .before .before .walk in
-    let at = c .before .before .before .offset-of .ensures .0 in
-    let s = c .before .before .steps-of .ensures .0 in
+    let at = body-in .ensures .at in
+    let s = c .before .before .steps-in .ensures ∙ ap stepsIn (body-in .ensures .len) in
     let ok = passed (said (c .before)) (c .if2 .left) in (
       omega arith,
-      omega (arith, start-count _ _ _ ok, field-below 1 bank (offsetOf bank (w .p + 1) + 1) (λ i. c .before .before .before .before .before .before .shared-slice-known .given i .fits)),
-      w .inv .1 ∙ bodies-more low high bank (c .before .before .before .before .before .before .before .args .n) (w .p) (c .before .before .before .before .if1 .left) ∙ right _ ok
-          ∙ (λ i. then (restSteps low high bank (w .p) (sym at i) (sym s i) 0) (restBodies low high bank (c .before .before .before .before .before .before .before .args .n) (w .p + 1))),
+      omega (arith, start-count _ _ _ ok, field-below 1 b (offsetOf b (w .p + 1) + 1) (λ i. c .before .before .before .before .before .before .shared-slice-known .given i .fits)),
+      omega (arith, body-inside (c .before .before .before)),
+      w .inv .1 ∙ bodies-more low high b n (w .p) (c .before .before .before .before .if1 .left) ∙ right _ ok
+          ∙ (λ i. then (restSteps low high b (w .p) (sym at i) (sym s i) 0) (restBodies low high b n (w .p + 1))),
     )
-
-add-step-at : tie.Need-add-step-at Inv-loop μ-loop Inv-walk μ-walk
-add-step-at c = search needs
-
-mul-step-at : tie.Need-mul-step-at Inv-loop μ-loop Inv-walk μ-walk
-mul-step-at c = search needs
-
-add-step-at-2 : tie.Need-add-step-at-2 Inv-loop μ-loop Inv-walk μ-walk
-add-step-at-2 c = search needs
-
-step-at-requires : tie.Need-step-at-requires Inv-loop μ-loop Inv-walk μ-walk
-step-at-requires c κs = search needs
-
-step-right-requires : tie.Need-step-right-requires Inv-loop μ-loop Inv-walk μ-walk
-step-right-requires c κs = search needs
-
-add-t20 : tie.Need-add-t20 Inv-loop μ-loop Inv-walk μ-walk
-add-t20 c = search needs
-
-add-t21 : tie.Need-add-t21 Inv-loop μ-loop Inv-walk μ-walk
-add-t21 c = search needs
-
-cast-t22 : tie.Need-cast-t22 Inv-loop μ-loop Inv-walk μ-walk
-cast-t22 c = search needs
-
-add-k : tie.Need-add-k Inv-loop μ-loop Inv-walk μ-walk
-add-k c = search needs
-
-loop-less : tie.Need-loop-less Inv-loop μ-loop Inv-walk μ-walk
-loop-less c = search needs
 
 loop-again : tie.Need-loop-again Inv-loop μ-loop Inv-walk μ-walk
 loop-again c =
-    let low = toZ w16 (ofZ w16 (c .before .before .before .before .before .before .before .before .before .before .before .before .args .low)) in
-    let high = toZ w16 (ofZ w16 (c .before .before .before .before .before .before .before .before .before .before .before .before .args .high)) in
-    let bank = now (c .before .before .before .before .before .before .before .before .before .before .before .before .args .bank) in
+    let start = c .before .before .before .before .before .before .before .before .before .before .before .before in
     let l = c .before .before .before .before .loop in
-    let p = c .before .before .before .before .before .before .before .before .before .before .walk .p in (
-      omega arith,
-      l .inv .1,
-      l .inv .2
-          ∙ ap (λ (r : Checked). then r (restBodies low high bank (c .before .before .before .before .before .before .before .before .before .before .before .before .args .n) (p + 1)))
-          (steps-more low high bank p (c .before .before .before .before .before .before .before .before .offset-of .result) (c .before .before .before .before .before .before .before .steps-of .result) (l .k) (c .before .before .before .loop-test .taken)
-          ∙ right _ (passed (step (c .before)) (c .if3 .left))),
-    )
-
-add-p : tie.Need-add-p Inv-loop μ-loop Inv-walk μ-walk
-add-p c = search needs
-
-walk-less : tie.Need-walk-less Inv-loop μ-loop Inv-walk μ-walk
-walk-less c = search needs
+    let w = c .before .before .before .before .before .before .before .before .before .before .walk in
+    let low = toZ w16 (ofZ w16 (start .args .low)) in
+    let high = toZ w16 (ofZ w16 (start .args .high)) in
+    let rest = restBodies low high (now (start .args .bank)) (start .args .n) (w .p + 1) in
+    (omega arith, l .inv .1, l .inv .2, l .inv .3 ∙ ap (λ (r : Checked). then r rest) (turn (c .before) ∙ right _ (not-false _ (c .if3 .left))))
 
 walk-again : tie.Need-walk-again Inv-loop μ-loop Inv-walk μ-walk
 walk-again c =
-    let l = c .before .loop in (
-      omega arith,
-      l .inv .2 ∙ next (steps-end _ _ (now (c .before .before .before .before .before .before .before .before .before .args .bank)) (c .before .before .before .before .before .before .before .walk .p) (c .before .before .before .before .before .offset-of .result) (c .before .before .before .before .steps-of .result) (l .k) (c .loop-test .left)),
-    )
+    let start = c .before .before .before .before .before .before .before .before .before in
+    let l = c .before .loop in
+    (omega arith, l .inv .3 ∙ next (steps-end _ _ (now (start .args .bank)) _ _ _ (l .k) (c .loop-test .left)))
 
 returns : tie.Need-returns Inv-loop μ-loop Inv-walk μ-walk
 returns c =
-    let w = c .before .walk in
-    sym (same _ _ (c .before .before .before .fits .low) (c .before .before .before .fits .high) ∙ w .inv .1 ∙ bodies-end _ _ (now (c .before .before .before .args .bank)) (c .before .before .before .args .n) (w .p) (c .if1 .taken))
+    let start = c .before .before .before in
+    sym (same _ _ (start .fits .low) (start .fits .high) ∙ c .before .walk .inv .1 ∙ bodies-end _ _ (now (start .args .bank)) (start .args .n) (c .before .walk .p) (c .if1 .taken))
 
 returns-2 : tie.Need-returns-2 Inv-loop μ-loop Inv-walk μ-walk
 returns-2 c =
-    let w = c .before .before .before .before .before .walk in
-    sym (same _ _ (c .before .before .before .before .before .before .before .fits .low) (c .before .before .before .before .before .before .before .fits .high) ∙ w .inv .1
-    ∙ bodies-more _ _ (now (c .before .before .before .before .before .before .before .args .bank)) (c .before .before .before .before .before .before .before .args .n) (w .p) (c .before .before .before .before .if1 .left)
+    let start = c .before .before .before .before .before .before .before in
+    let walk = c .before .before .before .before .before .walk in
+    sym (same _ _ (start .fits .low) (start .fits .high)
+    ∙ walk .inv .1
+    ∙ bodies-more _ _ (now (start .args .bank)) (start .args .n) (walk .p) (c .before .before .before .before .if1 .left)
     ∙ wrong _ (refused (said (c .before)) (c .if2 .taken)))
 
 returns-3 : tie.Need-returns-3 Inv-loop μ-loop Inv-walk μ-walk
 returns-3 c =
-    let low = toZ w16 (ofZ w16 (c .before .before .before .before .before .before .before .before .before .before .before .before .args .low)) in
-    let high = toZ w16 (ofZ w16 (c .before .before .before .before .before .before .before .before .before .before .before .before .args .high)) in
-    let bank = now (c .before .before .before .before .before .before .before .before .before .before .before .before .args .bank) in
+    let start = c .before .before .before .before .before .before .before .before .before .before .before .before in
     let l = c .before .before .before .before .loop in
-    let p = c .before .before .before .before .before .before .before .before .before .before .walk .p in
-    let rest = restBodies low high bank (c .before .before .before .before .before .before .before .before .before .before .before .before .args .n) (p + 1) in
-    sym (same _ _ (c .before .before .before .before .before .before .before .before .before .before .before .before .fits .low) (c .before .before .before .before .before .before .before .before .before .before .before .before .fits .high) ∙ l .inv .2
-    ∙ ap (λ (r : Checked). then r rest)
-    (steps-more low high bank p (c .before .before .before .before .before .before .before .before .offset-of .result) (c .before .before .before .before .before .before .before .steps-of .result) (l .k) (c .before .before .before .loop-test .taken)
-    ∙ wrong _ (refused (step (c .before)) (c .if3 .taken)))
-    ∙ stop (p + 1) (l .k + 1) rest)
+    let w = c .before .before .before .before .before .before .before .before .before .before .walk in
+    let low = toZ w16 (ofZ w16 (start .args .low)) in
+    let high = toZ w16 (ofZ w16 (start .args .high)) in
+    let rest = restBodies low high (now (start .args .bank)) (start .args .n) (w .p + 1) in
+    sym (same _ _ (start .fits .low) (start .fits .high) ∙ l .inv .3 ∙ ap (λ (r : Checked). then r rest) (turn (c .before) ∙ wrong _ (not-true _ (c .if3 .taken)))
+    ∙ stop (w .p + 1) (l .k + 1) rest)
 
 pub check-bodies-spec : {M : Type 1} → statement M
 check-bodies-spec =
@@ -183,26 +171,25 @@ check-bodies-spec =
     Inv-walk
     μ-walk
     walk-holds
-    add-offset-of
-    offset-of-requires
-    add-steps-of
-    steps-of-requires
+    (λ c. search needs)
+    body-in-requires
+    (λ c κs. search needs)
     body-right-requires
-    add-t13
+    (λ c. search needs)
     loop-holds
-    add-step-at
-    mul-step-at
-    add-step-at-2
-    step-at-requires
-    step-right-requires
-    add-t20
-    add-t21
-    cast-t22
-    add-k
-    loop-less
+    (λ c. search needs)
+    (λ c. search needs)
+    (λ c. search needs)
+    (λ c κs. omega arith)
+    (λ c κs. search needs)
+    (λ c. search needs)
+    (λ c. search needs)
+    (λ c. search needs)
+    (λ c. search needs)
+    (λ c. search needs)
     loop-again
-    add-p
-    walk-less
+    (λ c. search needs)
+    (λ c. search needs)
     walk-again
     returns
     returns-2

@@ -1,17 +1,17 @@
 -- `bank::pair::check_pairs` meets its contract. The invariant: all the pairs are found to be what the rest of them is found to be.
 -- Assumes nothing.
-use mathlib.Core.Path.{_≡_, refl, sym, ap, _∙_}
-use Prim.Native.Nat.{ℕ, _+_, _*_, _-_, _/_, _≤_}
+use Prim.Native.Nat.{ℕ, _+_, _*_, _-_, _≤_}
+use mathlib.Core.Path.{_≡_, sym, ap, _∙_}
 use native.Mathlib.Omega.{arith}
 use denote.Ref.{now}
+use borrow.Author.Needs.{needs}
 use borrow.Author.Tests.{le-leb, lt-leb, eq-eqb, ne-eqb}
 use lib.ListN.{length}
-use Rattle.bank.proofs.Laws.{right, wrong, refused, passed}
+use Rattle.setting.proofs.Laws.{right, wrong, refused, passed}
 use Rattle.bank.proofs.Walk.{restPairs, pairs-start, pairs-more, pairs-end}
-use Rattle.bank.specs.Check.{pairRight, pairsFound}
-use Rattle.bank.specs.View.{offsetOf, lengthOf}
 use Rattle.bank.specs.Capacity.{capacityOf}
-use borrow.Author.Needs.{needs}
+use Rattle.bank.specs.View.{offsetOf, lengthOf}
+use Rattle.bank.specs.Check.{pairRight, pairsFound}
 use Rattle.bank.proofs.pair.check_pairs.Statement.{statement}
 use Rattle.bank.proofs.pair.check_pairs.Tie as tie
 
@@ -22,102 +22,65 @@ abbrev μ-loop : tie.MeasureT-loop
 μ-loop bank n size due₀ cap i₀ due i = n - i
 
 -- what the call of `pair_right` says, of the bank itself
-said : (c : tie.After-pair-right Inv-loop μ-loop)
-    → c .pair-right .result
-    ≡ pairRight (offsetOf (now (c .before .before .before .before .before .before .before .before .before .before .args .bank)) (c .before .before .before .before .loop .i + 1)) (lengthOf (now (c .before .before .before .before .before .before .before .before .before .before .args .bank)) (c .before .before .before .before .loop .i + 1)) (c .before .before .before .before .loop .due)
-    (capacityOf (c .before .before .before .before .before .before .before .before .before .before .args .n)) (length (now (c .before .before .before .before .before .before .before .before .before .before .args .bank)))
+said : (c : tie.After-pair-right Inv-loop μ-loop) →
+    let b = now (c .before .before .before .before .before .before .before .args .bank) in
+    let p = c .before .before .before .loop .i + 1 in
+    c .pair-right .result ≡ pairRight (offsetOf b p) (lengthOf b p) (c .before .before .before .loop .due) (capacityOf (c .before .before .before .before .before .before .before .args .n)) (length b)
 said c =
-    let cap = c .before .before .before .before .before .wide2 .ensures ∙ c .before .before .before .before .before .before .capacity .ensures in
+    let body = c .before .body-in .ensures in
     c .pair-right .ensures
-    ∙ (λ i. pairRight (c .before .before .offset-of .ensures .0 i) (c .before .length-of .ensures .0 i) (c .before .before .before .before .loop .due) (cap i) (length (now (c .before .before .before .before .before .before .before .before .before .before .args .bank))))
-
-wide-requires : tie.Need-wide-requires Inv-loop μ-loop
-wide-requires c κs = search needs
-
-mul-due : tie.Need-mul-due Inv-loop μ-loop
-mul-due c = search needs
-
-add-due : tie.Need-add-due Inv-loop μ-loop
-add-due c = search needs
+    ∙ (λ i. pairRight (body .at i) (body .len i) (c .before .before .before .loop .due) (c .before .before .before .before .capacity .ensures i) (length (now (c .before .before .before .before .before .before .before .args .bank))))
 
 returns : tie.Need-returns Inv-loop μ-loop
 unfolding pairsFound
-returns c =
-    let a = c .before .before .before .args in
-    sym (wrong _ (lt-leb (45 + 4 * a .n) (length (now (a .bank))) (omega arith)))
-
-capacity-requires : tie.Need-capacity-requires Inv-loop μ-loop
-capacity-requires c κs = search needs
-
-wide-requires-2 : tie.Need-wide-requires-2 Inv-loop μ-loop
-wide-requires-2 c κs = search needs
+returns c = sym (wrong _ (lt-leb (45 + 4 * c .before .before .args .n) (length (now (c .before .before .args .bank))) (omega arith)))
 
 loop-holds : tie.Need-loop-holds Inv-loop μ-loop
 unfolding pairsFound
 loop-holds c =
-    let a = c .before .before .before .before .before .args in
-    let bank = now (a .bank) in
-    let n = a .n in (
-      omega arith,
-      omega arith,
-      right _ (le-leb (45 + 4 * n) (length bank) (omega arith)) ∙ pairs-start bank n (45 + 4 * n)
-          ∙ ap (λ (x : ℕ). restPairs bank n 0 (45 + 4 * x)) (sym (c .before .before .before .wide .ensures)),
-    )
-
-add-offset-of : tie.Need-add-offset-of Inv-loop μ-loop
-add-offset-of c = search needs
-
-offset-of-requires : tie.Need-offset-of-requires Inv-loop μ-loop
-offset-of-requires c κs = search needs
-
-add-length-of : tie.Need-add-length-of Inv-loop μ-loop
-add-length-of c = search needs
-
-length-of-requires : tie.Need-length-of-requires Inv-loop μ-loop
-length-of-requires c κs = search needs
+    let start = c .before .before .before in
+    let b = now (start .args .bank) in
+    let n = start .args .n in
+    (omega arith, omega arith, right _ (le-leb (45 + 4 * n) (length b) (omega arith)) ∙ pairs-start b n (45 + 4 * n))
 
 pair-right-requires : tie.Need-pair-right-requires Inv-loop μ-loop
-pair-right-requires c κs = search needs
-
-add-t16 : tie.Need-add-t16 Inv-loop μ-loop
-add-t16 c = search needs
+pair-right-requires c κs = omega (arith, c .body-in .ensures .short)
 
 returns-2 : tie.Need-returns-2 Inv-loop μ-loop
 returns-2 c =
-    let l = c .before .before .before .before .before .loop in
-    sym (l .inv .2 ∙ pairs-more (now (c .before .before .before .before .before .before .before .before .before .before .before .args .bank)) (c .before .before .before .before .before .before .before .before .before .before .before .args .n) (l .i) (l .due) (c .before .before .before .before .loop-test .taken)
+    let start = c .before .before .before .before .before .before .before .before in
+    let l = c .before .before .before .before .loop in
+    sym (l .inv .2
+    ∙ pairs-more (now (start .args .bank)) (start .args .n) (l .i) (l .due) (c .before .before .before .loop-test .taken)
     ∙ wrong _ (refused (said (c .before)) (c .if2 .taken)))
 
 add-due-2 : tie.Need-add-due-2 Inv-loop μ-loop
-add-due-2 c = search needs
-
-add-i : tie.Need-add-i Inv-loop μ-loop
-add-i c = search needs
-
-loop-less : tie.Need-loop-less Inv-loop μ-loop
-loop-less c = search needs
+add-due-2 c = omega (arith, c .before .before .before .body-in .ensures .short)
 
 loop-again : tie.Need-loop-again Inv-loop μ-loop
 loop-again c =
+    let start = c .before .before .before .before .before .before .before .before .before in
+    let body-in = c .before .before .before .body-in in
     let l = c .before .before .before .before .before .loop in
-    let n = c .before .before .before .before .before .before .before .before .before .before .before .args .n in
-    let bank = now (c .before .before .before .before .before .before .before .before .before .before .before .args .bank) in (
+    let b = now (start .args .bank) in
+    let n = start .args .n in (
       omega arith,
-      omega arith,
-      l .inv .2 ∙ pairs-more bank n (l .i) (l .due) (c .before .before .before .before .loop-test .taken)
-          ∙ right _ (passed (said (c .before)) (c .if2 .left))
-          ∙ ap (λ (x : ℕ). restPairs bank n (l .i + 1) (l .due + x)) (sym (c .before .before .length-of .ensures .0)),
+      omega (arith, body-in .ensures .short),
+      l .inv .2 ∙ pairs-more b n (l .i) (l .due) (c .before .before .before .before .loop-test .taken) ∙ right _ (passed (said (c .before .before)) (c .before .if2 .left))
+          ∙ ap (λ (x : ℕ). restPairs b n (l .i + 1) (l .due + x)) (sym (body-in .ensures .len)),
     )
 
 returns-3 : tie.Need-returns-3 Inv-loop μ-loop
 returns-3 c =
+    let start = c .before .before .before .before .before .before in
     let l = c .before .before .loop in
-    sym (l .inv .2 ∙ pairs-end (now (c .before .before .before .before .before .before .before .before .args .bank)) (c .before .before .before .before .before .before .before .before .args .n) (l .i) (l .due) (c .before .loop-test .left) ∙ right _ (eq-eqb _ _ (c .if3 .taken)))
+    sym (l .inv .2 ∙ pairs-end (now (start .args .bank)) (start .args .n) (l .i) (l .due) (c .before .loop-test .left) ∙ right _ (eq-eqb _ _ (c .if3 .taken)))
 
 returns-4 : tie.Need-returns-4 Inv-loop μ-loop
 returns-4 c =
+    let start = c .before .before .before .before .before .before in
     let l = c .before .before .loop in
-    sym (l .inv .2 ∙ pairs-end (now (c .before .before .before .before .before .before .before .before .args .bank)) (c .before .before .before .before .before .before .before .before .args .n) (l .i) (l .due) (c .before .loop-test .left) ∙ wrong _ (ne-eqb _ _ (c .if3 .left)))
+    sym (l .inv .2 ∙ pairs-end (now (start .args .bank)) (start .args .n) (l .i) (l .due) (c .before .loop-test .left) ∙ wrong _ (ne-eqb _ _ (c .if3 .left)))
 
 pub check-pairs-spec : {M : Type 1} → statement M
 check-pairs-spec =
@@ -125,23 +88,20 @@ check-pairs-spec =
     (tie.spec
     Inv-loop
     μ-loop
-    wide-requires
-    mul-due
-    add-due
+    (λ c. search needs)
+    (λ c. search needs)
     returns
-    capacity-requires
-    wide-requires-2
+    (λ c κs. search needs)
+    (λ c. search needs)
     loop-holds
-    add-offset-of
-    offset-of-requires
-    add-length-of
-    length-of-requires
+    (λ c. search needs)
+    (λ c κs. search needs)
     pair-right-requires
-    add-t16
+    (λ c. search needs)
     returns-2
     add-due-2
-    add-i
-    loop-less
+    (λ c. search needs)
+    (λ c. search needs)
     loop-again
     returns-3
     returns-4)

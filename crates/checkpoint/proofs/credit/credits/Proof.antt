@@ -1,68 +1,69 @@
--- `checkpoint::credit::credits` meets its contract. The invariant: what has been read, and then what is left to read, is what the contract says.
+-- `checkpoint::credit::credits` meets its contract. The invariant: what has been read, and then what is left to read, is what the contract says, and nothing is read
+-- ahead.
 -- Assumes nothing.
-use borrow.Author.Needs.{needs}
 use Prim.Native.Nat.{ℕ, _≤_, _-_, _+_, _*_}
 use mathlib.Core.Path.{_≡_, refl, sym, ap, _∙_}
-use mathlib.Core.List.{_++_, append-nil}
+use mathlib.Core.List.{List, _++_, append-nil}
 use native.Mathlib.Omega.{arith}
-use lib.ListN.{length, take, length-set, replicate}
-use lib.Seq.{take-all}
+use borrow.Author.Needs.{needs}
+use denote.Ref.{now}
+use lib.ListN.{length, take, set, getD, length-set, replicate}
+use lib.Seq.{take-all, getD-set-other}
+use Rattle.field.specs.Field.{field}
 use Rattle.field.specs.Row.{rowAt}
 use Rattle.checkpoint.specs.Record.{creditWidths}
-use Rattle.field.proofs.Rows.{read-turn}
+use Rattle.field.proofs.Laws.{field-four}
+use Rattle.field.proofs.Rows.{zero-at, read-turn, rows-past, zeros-behind}
 use Rattle.checkpoint.proofs.credit.credits.Statement.{statement}
 use Rattle.checkpoint.proofs.credit.credits.Tie as tie
 
 abbrev Inv-loop : tie.InvT-loop
-Inv-loop store cs₀ i₀ cs i =
-    (i ≤ 99) × (length cs ≡ 99) × (take i cs ++ rowAt (replicate (99 - i) 4) store (15 + 4 * i) ≡ rowAt creditWidths store 15)
+Inv-loop store whole cs₀ i₀ cs i =
+    (i ≤ whole) × (length cs ≡ 99) × ((j : ℕ) → i ≤ j → getD cs j 0 ≡ 0)
+    × (take i cs ++ rowAt (replicate (99 - i) 4) store (15 + 4 * i) ≡ rowAt creditWidths store 15)
 
 abbrev μ-loop : tie.MeasureT-loop
-μ-loop store cs₀ i₀ cs i = 99 - i
+μ-loop store whole cs₀ i₀ cs i = whole - i
 
 loop-holds : tie.Need-loop-holds Inv-loop μ-loop
 unfolding creditWidths
-loop-holds c = (omega arith, refl, refl)
-
-mul-credit-at : tie.Need-mul-credit-at Inv-loop μ-loop
-mul-credit-at c = omega arith
-
-add-credit-at : tie.Need-add-credit-at Inv-loop μ-loop
-add-credit-at c = omega arith
-
-credit-at-requires : tie.Need-credit-at-requires Inv-loop μ-loop
-credit-at-requires c κs = omega arith
-
-mul-cs : tie.Need-mul-cs Inv-loop μ-loop
-mul-cs c = omega arith
-
-array-write-cs : tie.Need-array-write-cs Inv-loop μ-loop
-array-write-cs c = omega arith
-
-add-i : tie.Need-add-i Inv-loop μ-loop
-add-i c = omega arith
-
-loop-less : tie.Need-loop-less Inv-loop μ-loop
-loop-less c = omega arith
+loop-holds c = (omega arith, refl, λ j h. zero-at 99 j, refl)
 
 loop-again : tie.Need-loop-again Inv-loop μ-loop
 loop-again c =
-    let l = c .before .before .loop in
-    let a = c .before .before .before .before .args in (
+    let l = c .before .before .before .before .before .before .loop in
+    let b = now (c .before .before .before .before .before .before .before .before .before .args .store) in
+    let e : c .join4 .result ≡ field 4 b (15 + 4 * l .i) = omega (arith, c .join4 .ensures, field-four b (15 + 4 * l .i)) in (
       omega arith,
       simp length-set (l .inv .1),
-      rw (c .credit-at .ensures) (read-turn (a .store .now) (l .cs) 15 (l .i) 4 99 (omega arith) (omega arith) ∙ l .inv .2),
+      λ j h. getD-set-other (l .cs) (l .i) j _ 0 (λ q. omega arith) ∙ l .inv .2 j (omega arith),
+      rw e (read-turn b (l .cs) 15 (l .i) 4 99 (omega arith) (omega arith) ∙ l .inv .3),
     )
 
 returns : tie.Need-returns Inv-loop μ-loop
 unfolding rowAt
 returns c =
-    let l = c .before .loop in
-    let a = c .before .before .before .args in
+    let l = c .before .before .loop in
+    let b = now (c .before .before .before .before .before .args .store) in
     let e : l .i ≡ 99 = omega arith in
     let h : length (l .cs) ≤ 99 = omega arith in
     sym (append-nil (take 99 (l .cs)) ∙ take-all 99 (l .cs) h)
-    ∙ ap (λ (n : ℕ). take n (l .cs) ++ rowAt (replicate (99 - n) 4) (a .store .now) (15 + 4 * n)) (sym e) ∙ l .inv .2
+    ∙ ap (λ (n : ℕ). take n (l .cs) ++ rowAt (replicate (99 - n) 4) b (15 + 4 * n)) (sym e) ∙ l .inv .3
+
+returns-2 : tie.Need-returns-2 Inv-loop μ-loop
+returns-2 c =
+    let l = c .before .before .before .loop in
+    let whole = c .before .before .before .before .whole-credits .result in
+    let b = now (c .before .before .before .before .before .before .args .store) in
+    let cs = set (l .cs) whole (field 4 b (15 + 4 * whole)) in
+    let e : l .i ≡ whole = omega arith in
+    let size : length cs ≡ 99 = simp length-set (l .inv .1) in
+    let zeros : (j : ℕ) → whole + 1 ≤ j → getD cs j 0 ≡ 0 = λ j h. getD-set-other (l .cs) whole j _ 0 (λ q. omega arith) ∙ l .inv .2 j (omega arith) in
+    ap (set (l .cs) whole) (c .long .ensures)
+    ∙ zeros-behind cs (whole + 1) 99 size (omega arith) zeros
+    ∙ ap (λ (xs : List ℕ). take (whole + 1) cs ++ xs) (sym (rows-past 4 (99 - (whole + 1)) b (15 + 4 * (whole + 1)) (omega (arith, c .before .before .before .before .whole-credits .ensures))))
+    ∙ read-turn b (l .cs) 15 whole 4 99 (omega arith) (omega arith)
+    ∙ ap (λ (n : ℕ). take n (l .cs) ++ rowAt (replicate (99 - n) 4) b (15 + 4 * n)) (sym e) ∙ l .inv .3
 
 pub credits-spec : {M : Type 1} → statement M
 credits-spec =
@@ -70,13 +71,27 @@ credits-spec =
     (tie.spec
     Inv-loop
     μ-loop
+    (λ c κs. search needs)
     loop-holds
-    mul-credit-at
-    add-credit-at
-    credit-at-requires
-    mul-cs
-    array-write-cs
-    add-i
-    loop-less
+    (λ c. omega arith)
+    (λ c. omega arith)
+    (λ c. omega arith)
+    (λ c. omega arith)
+    (λ c. omega arith)
+    (λ c. omega arith)
+    (λ c. omega arith)
+    (λ c. omega arith)
+    (λ c. omega arith)
+    (λ c κs. search needs)
+    (λ c. omega arith)
+    (λ c. omega arith)
+    (λ c. omega arith)
+    (λ c. omega arith)
     loop-again
-    returns)
+    returns
+    (λ c. omega arith)
+    (λ c. omega arith)
+    (λ c κs. search needs)
+    (λ c. omega arith)
+    (λ c. omega arith)
+    returns-2)

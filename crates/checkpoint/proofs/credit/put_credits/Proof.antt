@@ -6,15 +6,12 @@ use native.Mathlib.Omega.{arith}
 use lib.ListN.{length, getD, drop, drop-of-length-le, length-replicate}
 use lib.Seq.{sets}
 use Rattle.field.specs.Row.{row}
-use Rattle.field.proofs.Rows.{row-turn}
+use Rattle.field.proofs.Laws.{stored-fits}
 use Rattle.checkpoint.specs.Record.{creditWidths}
 use Rattle.checkpoint.proofs.Laws.{credit-turn}
 use borrow.Author.Needs.{needs}
 use Rattle.checkpoint.proofs.credit.put_credits.Statement.{statement}
 use Rattle.checkpoint.proofs.credit.put_credits.Tie as tie
-use Rattle.checkpoint.proofs.credit.put_credits.Reads as reads
-use Rattle.checkpoint.proofs.credit.put_credits.Lts as lts
-use Rattle.checkpoint.proofs.credit.put_credit.Reads as put-credit-reads
 
 abbrev Inv-loop : tie.InvT-loop
 Inv-loop store₀ credits i₀ store i =
@@ -27,29 +24,16 @@ abbrev μ-loop : tie.MeasureT-loop
 loop-holds : tie.Need-loop-holds Inv-loop μ-loop
 loop-holds c = (omega arith, refl, refl)
 
-mul-v : tie.Need-mul-v Inv-loop μ-loop
-mul-v c = omega arith
-
-element-copy-out-v : tie.Need-element-copy-out-v Inv-loop μ-loop
-element-copy-out-v c = omega arith
-
-mul-put-credit : tie.Need-mul-put-credit Inv-loop μ-loop
-mul-put-credit c = omega arith
-
-add-put-credit : tie.Need-add-put-credit Inv-loop μ-loop
-add-put-credit c = omega arith
-
-put-credit-requires : tie.Need-put-credit-requires Inv-loop μ-loop
-put-credit-requires c κs = omega (arith, c .before .before .before .loop .inv .1, c .before .before .before .before .before .pre .0)
-
-add-i : tie.Need-add-i Inv-loop μ-loop
-add-i c = omega arith
-
-loop-less : tie.Need-loop-less Inv-loop μ-loop
-loop-less c = omega arith
-
 loop-again : tie.Need-loop-again Inv-loop μ-loop
-loop-again c = (omega arith, c .before .store .given ∙ c .before .before .before .before .before .before .loop .inv .1, rw (c .before .before .put-credit .ensures) (credit-turn (c .before .before .before .before .before .before .loop .store) (c .before .before .before .before .before .before .before .before .args .credits .now) (c .before .before .before .before .before .before .loop .i) (c .before .before .before .before .before .loop-test .taken) (c .before .before .before .before .before .before .before .before .pre .1) ∙ c .before .before .before .before .before .before .loop .inv .2))
+loop-again c =
+    let start = c .before .before .before .before .before .before .before in
+    let l = c .before .before .before .before .before .loop in
+    let vs = start .args .t2 in
+    let fits = stored-fits 4 (l .store) (15 + 4 * l .i) (getD vs (l .i) 0) (omega (arith, start .pre)) in (
+      omega arith,
+      c .before .store .given ∙ l .inv .1,
+      rw (c .before .before .put .ensures ∙ fits) (credit-turn (l .store) vs (l .i) (c .before .before .before .before .loop-test .taken) (search needs) ∙ l .inv .2),
+    )
 
 same-length : tie.Need-same-length Inv-loop μ-loop
 same-length c = c .before .loop .inv .1
@@ -61,7 +45,7 @@ returns c =
     let a = c .before .before .before .args in
     let i : l .i ≡ 99 = omega arith in
     let e : drop (l .i) creditWidths ≡ [] = drop-of-length-le creditWidths {i = l .i} (omega (arith, length-replicate {A = ℕ} 99 4)) in
-    ap (λ (x : List ℕ). sets (l .store) (15 + 4 * l .i) (row x (drop (l .i) (a .credits .now)))) (sym e) ∙ l .inv .2
+    ap (λ (x : List ℕ). sets (l .store) (15 + 4 * l .i) (row x (drop (l .i) (a .t2)))) (sym e) ∙ l .inv .2
 
 pub put-credits-spec : {M : Type 1} → statement M
 put-credits-spec =
@@ -70,13 +54,14 @@ put-credits-spec =
     Inv-loop
     μ-loop
     loop-holds
-    mul-v
-    element-copy-out-v
-    mul-put-credit
-    add-put-credit
-    put-credit-requires
-    add-i
-    loop-less
+    (λ c. omega arith)
+    (λ c. omega arith)
+    (λ c. omega arith)
+    (λ c. omega arith)
+    (λ c. search needs)
+    (λ c κs. search needs)
+    (λ c. omega arith)
+    (λ c. omega arith)
     loop-again
     same-length
     returns)

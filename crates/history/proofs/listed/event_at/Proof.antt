@@ -6,11 +6,6 @@ use Rattle.history.specs.Listed.{eventAt}
 use borrow.Author.Needs.{needs}
 use Rattle.history.proofs.listed.event_at.Statement.{statement}
 use Rattle.history.proofs.listed.event_at.Tie as tie
-use Rattle.history.proofs.listed.event_at.Reads as reads
-use Rattle.history.proofs.listed.event_at.Lts as lts
-use Rattle.field.proofs.byte.Reads as byte-reads
-use Rattle.field.proofs.signed_long.Reads as signed-long-reads
-use Rattle.history.proofs.listed.event_of.Reads as event-of-reads
 
 add-signed-long : tie.Need-add-signed-long
 add-signed-long c = search needs

@@ -5,8 +5,6 @@ use mir.Syntax.{w32}
 use Rattle.history.specs.Listed.{eventOfKind}
 use Rattle.history.proofs.listed.event_of.Statement.{statement}
 use Rattle.history.proofs.listed.event_of.Tie as tie
-use Rattle.history.proofs.listed.event_of.Reads as reads
-use Rattle.history.proofs.listed.event_of.Lts as lts
 
 returns : tie.Need-returns
 unfolding eventOfKind

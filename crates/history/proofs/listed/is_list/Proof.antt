@@ -2,16 +2,13 @@
 use mathlib.Core.Path.{_≡_, sym, _∙_}
 use Prim.Native.Nat.{_-_}
 use native.Mathlib.Omega.{arith}
-use borrow.Author.Tests.{ne-eqb, eq-eqb}
+use borrow.Author.Tests.{ne-eqb}
 use lib.ListN.{length}
-use Rattle.bank.specs.Range.{both}
+use Rattle.setting.specs.Range.{both}
 use Rattle.history.specs.Listed.{formed, all, knownAt}
 use Rattle.history.proofs.Walk.{rest, Begins, more-left, begins-next, formed-first, known-next, unknown, known-end}
 use Rattle.history.proofs.listed.is_list.Statement.{statement}
 use Rattle.history.proofs.listed.is_list.Tie as tie
-use Rattle.history.proofs.listed.is_list.Reads as reads
-use Rattle.history.proofs.listed.is_list.Lts as lts
-use Rattle.field.proofs.byte.Reads as byte-reads
 
 abbrev Inv-loop : tie.InvT-loop
 Inv-loop events at₀ at = Begins (length events) at × (all (rest (knownAt events) (length events) at) ≡ formed events)

@@ -1,60 +1,65 @@
--- `line::text::put_eight` meets its contract. Assumes nothing.
-use mathlib.Core.Path.{ap, _∙_}
+-- `line::text::put_eight` meets its contract: each of the eight numbers, as one of 64 bits, is the number.
+-- Assumes nothing.
 use mathlib.Core.List.{[], _∷_}
-use lib.IntN.{pos}
+use mathlib.Core.Path.{_≡_, ap, _∙_}
 use native.Mathlib.Omega.{arith}
 use borrow.Author.Needs.{needs}
-use mir.Facts.{toZ-ofZ}
+use denote.Ref.{now}
+use lib.IntN.{ℤ}
+use mir.Facts.{toZ-ofZ, sfits-widen}
+use mir.Syntax.{w16, w64}
+use mir.Val.{SFits, ofZ, toZ}
+use Rattle.bank.specs.View.{placeOf}
+use Rattle.bank.specs.declared.Place.{Place}
 use Rattle.program.specs.Program.{setValueOf}
-use Rattle.controller.specs.Plain.{hereOf}
 use Rattle.controller.specs.Demand.{setValueIn}
+use Rattle.controller.specs.Plain.{hereOf}
 use Rattle.line.specs.Text.{eight}
+use Rattle.line.proofs.Laws.{line-put, small}
 use Rattle.line.proofs.text.put_eight.Statement.{statement}
 use Rattle.line.proofs.text.put_eight.Tie as tie
 
-step-of-requires : tie.Need-step-of-requires
-step-of-requires c κs = tt
+-- a number of 16 bits as one of 64
+wide : (z : ℤ) → SFits w16 z → SFits w64 (toZ w16 (ofZ w16 z))
+wide z f = rw (toZ-ofZ f) (sfits-widen {w = w16} (tt {0}) f)
 
-set-value-requires : tie.Need-set-value-requires
-set-value-requires c κs = tt
-
-put-first-requires : tie.Need-put-first-requires
-put-first-requires c κs = search needs
-
-put-place-requires : tie.Need-put-place-requires
-put-place-requires c κs = search needs
-
-put-next-requires : tie.Need-put-next-requires
-put-next-requires c κs = search needs
-
-put-next-requires-2 : tie.Need-put-next-requires-2
-put-next-requires-2 c κs = search needs
-
-put-last-requires : tie.Need-put-last-requires
-put-last-requires c κs = search needs
-
-same-length : tie.Need-same-length
-same-length c = search needs
+cast-t18 : tie.Need-cast-t18
+cast-t18 c = wide (c .set-value .result) (record { sfits = c .set-value .ok })
 
 returns : tie.Need-returns
-unfolding eight setValueIn hereOf
+unfolding eight setValueIn hereOf placeOf
 returns c =
-    let s = c .before .before .before .before .before .before .before .before .before .before .before .before .before .before .before .before .before .before .before .before .before .before .before .before .before .args .s in
+    let start = c .before .before .before .before .before .before .before .before .before .before .before .before .before .before .before .before .before in
+    let b = now (start .args .bank) in
+    let n = start .args .answer in
+    let s = start .args .s in
     let p = s .position in
-    let v = c .before .before .before .before .before .before .before .before .before .before .before .before .before .before .before .before .before .before .before .before .set-value .result in
-    let is = c .before .before .before .before .before .before .before .before .before .before .before .before .before .before .before .before .before .before .before .before .set-value .ensures ∙ ap (λ h. setValueOf h p) (c .before .before .before .before .before .before .before .before .before .before .before .before .before .before .before .before .before .before .before .before .before .step-of .ensures) in
-    (rw (← is) (c .before .before .put-last .ensures .0 ∙ rw (toZ-ofZ (record { sfits = c .before .before .before .before .before .before .before .before .before .before .before .before .before .before .before .before .before .before .before .before .set-value .ok })) (c .before .before .before .before .before .before .put-next2 .ensures .0 (v ∷ []) ∙ c .before .before .before .before .before .before .before .before .before .before .put-next .ensures .0 (pos (p .waited) ∷ v ∷ []) ∙ c .before .before .before .before .before .before .before .before .before .before .before .before .before .before .put-place .ensures .0 (pos (p .elapsed) ∷ pos (p .waited) ∷ v ∷ []) ∙ c .before .before .before .before .before .before .before .before .before .before .before .before .before .before .before .before .before .before .put-first .ensures .0 (pos (p .mode) ∷ pos (p .pattern) ∷ pos (p .step) ∷ pos (p .pass) ∷ pos (p .elapsed) ∷ pos (p .waited) ∷ v ∷ []))), omega arith)
+    let v = c .before .before .before .before .before .set-value in
+    let f : SFits w16 (v .result) = record { sfits = v .ok } in
+    let place = c .before .before .before .before .before .before .before .before .before .before .before .before .before .place-of .ensures in
+    let value : toZ w64 (ofZ w64 (toZ w16 (ofZ w16 (v .result)))) ≡ setValueIn b s = toZ-ofZ (wide (v .result) f) ∙ toZ-ofZ f ∙ v .ensures ∙ ap (λ (x : Place). setValueOf (x .step) p) place in
+    let elapsed = c .before .before .before .before .before .before .before .struct-known5 .given in
+    let waited = c .before .before .before .before .before .before .struct-known6 .given in
+    line-put _ _ (eight b n s) (omega arith)
+    (λ i. small n (omega arith) i ∷ small (p .mode) (omega arith) i ∷ small (p .pattern) (omega arith) i ∷ small (p .step) (omega arith) i
+    ∷ small (p .pass) (omega arith) i ∷ small (p .elapsed) (omega (arith, elapsed)) i ∷ small (p .waited) (omega (arith, waited)) i ∷ value i ∷ [])
+    (c .before .before .put-line .ensures)
 
 pub put-eight-spec : {M : Type 1} → statement M
 put-eight-spec =
     tie.close
     (tie.spec
-    step-of-requires
-    set-value-requires
-    put-first-requires
-    put-place-requires
-    put-next-requires
-    put-next-requires-2
-    put-last-requires
-    same-length
+    (λ c κs. search needs)
+    (λ c. search needs)
+    (λ c. search needs)
+    (λ c. search needs)
+    (λ c. search needs)
+    (λ c. search needs)
+    (λ c. search needs)
+    (λ c. search needs)
+    (λ c κs. search needs)
+    cast-t18
+    (λ c. search needs)
+    (λ c κs. search needs)
+    (λ c. search needs)
     returns)

@@ -29,12 +29,12 @@ clear-requires-2 c κs = tt
 times-right-requires : tie.Need-times-right-requires
 times-right-requires c κs = tt
 
-in-range-requires : tie.Need-in-range-requires
-in-range-requires c κs = tt
+is-temperature-requires : tie.Need-is-temperature-requires
+is-temperature-requires c κs = tt
 
 returns-2 : tie.Need-returns-2
 unfolding readableOf
-returns-2 c = rw (ne-eqb _ _ (c .before .before .before .before .before .before .before .before .before .before .before .if1 .left), c .in-range .ensures, toZ-ofZ {w = w16} (record { sfits = c .before .struct-told .given .1 .1 .1 .1 .1 .1 .0 .1 }), by-mode (c .before .before)) (simp both-and)
+returns-2 c = rw (ne-eqb _ _ (c .before .before .before .before .before .before .before .before .before .before .before .if1 .left), c .is-temperature .ensures, toZ-ofZ {w = w16} (record { sfits = c .before .struct-told .given .1 .1 .1 .1 .1 .1 .0 .1 }), by-mode (c .before .before)) (simp both-and)
 
 pub readable-spec : {M : Type 1} → statement M
 readable-spec =
@@ -44,5 +44,5 @@ readable-spec =
     returns
     clear-requires-2
     times-right-requires
-    in-range-requires
+    is-temperature-requires
     returns-2)

@@ -2,62 +2,55 @@
 -- Assumes nothing.
 use mathlib.Core.Path.{_≡_, refl, sym, ap, _∙_}
 use mathlib.Core.List.{List}
-use Prim.Native.Nat.{ℕ, _-_, _≤_}
+use Prim.Native.Nat.{_+_, _-_, _≤_, _<_, zero-le}
+use native.Mathlib.Numerals.{add-one-le}
 use native.Mathlib.Omega.{arith}
 use lib.ListN.{length}
-use Rattle.bank.specs.Read.{allSteps}
-use Rattle.writer.specs.Write.{takenOf, takenFrom}
-use Rattle.writer.proofs.Taken.{Fit, fit-by, sumTo, sum-more, next-in}
-use Rattle.writer.proofs.Values.{all-steps}
+use Rattle.bank.specs.View.{Pattern}
+use Rattle.writer.specs.Read.{allSteps}
+use Rattle.writer.proofs.Taken.{countAt, taken-all, Fit, fit-of, sumTo, sum-more, next-in}
+use Rattle.writer.proofs.Values.{patterns-fit}
 use Rattle.writer.proofs.Sizes.{length-all}
 use borrow.Author.Needs.{needs}
 use Rattle.writer.proofs.pattern.count_steps.Statement.{statement}
 use Rattle.writer.proofs.pattern.count_steps.Tie as tie
 
 abbrev Inv-loop : tie.InvT-loop
-Inv-loop n counts base₀ p₀ base p = (p ≤ n) × (base ≡ sumTo counts p)
+Inv-loop ps n base₀ p₀ base p = (p ≤ n) × (n ≤ 15) × (base ≡ sumTo (ps .counts) p)
 
 abbrev μ-loop : tie.MeasureT-loop
-μ-loop n counts base₀ p₀ base p = n - p
+μ-loop ps n base₀ p₀ base p = n - p
 
-fit : (c : tie.After-wide Inv-loop μ-loop) → Fit (c .wide .result) (c .before .args .ps .counts)
-fit c = fit-by (c .before .args .s) (c .before .args .ps) (c .wide .ensures) (c .before .pre)
+fit : (c : tie.Start Inv-loop μ-loop) → Fit (c .args .s .patterns) (c .args .t2)
+fit c = fit-of (c .args .s) (c .args .t2) (c .pre)
 
-wide-requires : tie.Need-wide-requires Inv-loop μ-loop
-wide-requires c κs = search needs
+-- there is a pattern, and there are at most 99 steps
+room : (c : tie.In-loop Inv-loop μ-loop) →
+    let l = c .before .loop in
+    (l .p < c .before .before .before .args .s .patterns) × (c .before .before .before .args .s .patterns ≤ 15) × (l .base + countAt (c .before .before .before .args .t2) (l .p) ≤ 99)
+room c =
+    let l = c .before .loop in
+    let next = next-in _ _ (fit (c .before .before .before)) (l .p) (c .loop-test .taken) in
+    (c .loop-test .taken, l .inv .1, omega (arith, l .inv .2))
 
 loop-holds : tie.Need-loop-holds Inv-loop μ-loop
 unfolding sumTo
-loop-holds c = (omega arith, refl)
-
-array-read-wide : tie.Need-array-read-wide Inv-loop μ-loop
-array-read-wide c = omega (arith, fit (c .before .before .before) .few)
-
-wide-requires-2 : tie.Need-wide-requires-2 Inv-loop μ-loop
-wide-requires-2 c κs = search needs
-
-add-base : tie.Need-add-base Inv-loop μ-loop
-add-base c = omega (arith, next-in _ _ (fit (c .before .before .before .before)) (c .before .before .loop .p) (c .before .loop-test .taken))
-
-add-p : tie.Need-add-p Inv-loop μ-loop
-add-p c = omega (arith, fit (c .before .before .before .before) .few)
-
-loop-less : tie.Need-loop-less Inv-loop μ-loop
-loop-less c = search needs
+loop-holds c = (zero-le, fit (c .before) .few, refl)
 
 loop-again : tie.Need-loop-again Inv-loop μ-loop
-loop-again c = (omega arith, omega (arith, sum-more (c .before .before .before .before .before .args .ps .counts) (c .before .before .loop .p)))
+loop-again c =
+    let l = c .before .before .loop in
+    (add-one-le (c .before .loop-test .taken), l .inv .1, omega (arith, l .inv .2, sum-more (c .before .before .before .before .args .t2 .counts) (l .p)))
 
 returns : tie.Need-returns Inv-loop μ-loop
-unfolding takenOf
 returns c =
-    let a = c .before .before .before .before .args in
+    let start = c .before .before .before in
+    let s = start .args .s in
+    let ps = start .args .t2 in
     let l = c .before .loop in
-    let n = c .before .before .before .wide .result in
-    let e : l .p ≡ n = omega arith in
-    let all = all-steps (a .ps) _ (c .before .before .before .before .good .1 .0) in
-    l .inv .1 ∙ ap (sumTo (a .ps .counts)) e ∙ sym (length-all (a .ps) n (fit (c .before .before .before)) all)
-    ∙ ap (λ (m : ℕ). length (allSteps (takenFrom (a .ps) 0 0 m))) (c .before .before .before .wide .ensures)
+    let e : l .p ≡ s .patterns = omega (arith, l .inv .0, c .loop-test .left) in
+    l .inv .2 ∙ ap (sumTo (ps .counts)) e ∙ sym (length-all ps (s .patterns) (fit start) (patterns-fit ps _ (start .good .1 .0) .size))
+    ∙ ap (λ (xs : List Pattern). length (allSteps xs)) (sym (taken-all s ps))
 
 pub count-steps-spec : {M : Type 1} → statement M
 count-steps-spec =
@@ -65,12 +58,12 @@ count-steps-spec =
     (tie.spec
     Inv-loop
     μ-loop
-    wide-requires
+    (λ c. search needs)
     loop-holds
-    array-read-wide
-    wide-requires-2
-    add-base
-    add-p
-    loop-less
+    (λ c. omega (arith, room c))
+    (λ c. omega (arith, room (c .before)))
+    (λ c. omega (arith, room (c .before)))
+    (λ c. omega (arith, room (c .before)))
+    (λ c. omega (arith, room (c .before)))
     loop-again
     returns)

@@ -1,71 +1,69 @@
 -- `writer::put::put_bank` meets its contract: settings, pairs and bodies, one behind the other.
 -- Assumes nothing.
-use mathlib.Core.Path.{_≡_, sym, _∙_}
+use mathlib.Core.Path.{sym, ap, _∙_}
 use mathlib.Core.List.{List}
 use Prim.Native.Nat.{ℕ, _+_, _*_, _≤_}
 use native.Mathlib.Omega.{arith}
-use lib.ListN.{length}
 use denote.Ref.{now}
+use lib.ListN.{length}
 use lib.Seq.{sets}
-use Rattle.bank.specs.View.{Pattern}
-use Rattle.bank.specs.Read.{allSteps}
+use Rattle.writer.specs.Read.{allSteps}
 use Rattle.writer.specs.Encode.{pairsBytes, bodiesBytes}
 use Rattle.writer.specs.Write.{takenOf}
-use Rattle.writer.proofs.Taken.{length-taken}
 use Rattle.writer.proofs.Values.{fours}
 use Rattle.writer.proofs.Sizes.{length-bodies, length-bank, bank-parts}
-use borrow.Author.Needs.{needs}
+use Rattle.writer.proofs.Taken.{length-taken}
 use Rattle.writer.proofs.put.put_bank.Statement.{statement}
 use Rattle.writer.proofs.put.put_bank.Tie as tie
 
--- as many patterns as the settings say, and room for their bank
-count : (c : tie.Start) → length (takenOf (c .args .s) (c .args .ps)) ≡ c .args .s .patterns
-unfolding takenOf
-count c = length-taken (c .args .ps) 0 0 (c .args .s .patterns)
-
-room : (c : tie.Start) → 45 + 6 * length (takenOf (c .args .s) (c .args .ps)) + 9 * length (allSteps (takenOf (c .args .s) (c .args .ps))) ≤ length (now (c .args .out))
-room c = let s = c .args .s in omega (arith, c .pre .1, length-bank s (takenOf s (c .args .ps)) (fours s _ (c .good .1 .0)))
-
-put-settings-requires : tie.Need-put-settings-requires
-put-settings-requires c κs = omega (arith, room (c .before .before))
+-- room for the bank of as many patterns as the settings say
+room : (c : tie.Start) → 45 + 6 * c .args .s .patterns + 9 * length (allSteps (takenOf (c .args .s) (c .args .ps))) ≤ length (now (c .args .out))
+room c =
+    let s = c .args .s in
+    let ps = c .args .ps in
+    omega (arith, c .pre .1, length-taken s ps, length-bank s (takenOf s ps) (fours s _ (c .good .1 .0)))
 
 put-pairs-requires : tie.Need-put-pairs-requires
-put-pairs-requires c κs = (c .before .before .before .before .before .before .pre .0, omega (arith, room (c .before .before .before .before .before .before), count (c .before .before .before .before .before .before), c .before .before .before .put-settings .kept .0))
-
-wide-requires : tie.Need-wide-requires
-wide-requires c κs = search needs
-
-mul-put-bodies : tie.Need-mul-put-bodies
-mul-put-bodies c = search needs
-
-add-put-bodies : tie.Need-add-put-bodies
-add-put-bodies c = search needs
+put-pairs-requires c κs =
+    let start = c .before .before .before .before .before .before in
+    (start .pre .0, omega (arith, room start, c .before .before .before .put-settings .kept .0))
 
 put-bodies-requires : tie.Need-put-bodies-requires
-put-bodies-requires c κs = (c .before .before .before .before .before .before .before .before .before .before .before .pre .0, omega (arith, room (c .before .before .before .before .before .before .before .before .before .before .before), count (c .before .before .before .before .before .before .before .before .before .before .before), length-bodies (takenOf (c .before .before .before .before .before .before .before .before .before .before .before .args .s) (c .before .before .before .before .before .before .before .before .before .before .before .args .ps)), c .before .before .before .before .before .before .before .before .put-settings .kept .0, c .before .before .before .before .put-pairs .kept .0, c .wide .ensures))
+put-bodies-requires c κs =
+    let start = c .before .before .before .before .before .before .before .before .before .before .before in
+    let s = start .args .s in
+    let ps = start .args .ps in
+    let settings = c .before .before .before .before .before .before .before .before .put-settings .kept .0 in
+    let pairs = c .before .before .before .before .put-pairs .kept .0 in
+    (start .pre .0, omega (arith, room start, length-taken s ps, length-bodies (takenOf s ps), settings, pairs))
 
 same-length : tie.Need-same-length
-same-length c = search needs
+same-length c =
+    let settings = c .before .before .before .before .before .before .before .before .before .before .before .put-settings in
+    let pairs = c .before .before .before .before .before .before .before .put-pairs in
+    c .before .before .put-bodies .kept .0 ∙ pairs .kept .0 ∙ settings .kept .0
 
 returns : tie.Need-returns
 returns c =
-    let a = c .before .before .before .before .before .before .before .before .before .before .before .before .before .before .args in
-    let xs = takenOf (a .s) (a .ps) in
-    let n = sym (count (c .before .before .before .before .before .before .before .before .before .before .before .before .before .before)) in
+    let start = c .before .before .before .before .before .before .before .before .before .before .before .before .before .before in
+    let s = start .args .s in
+    let xs = takenOf s (start .args .ps) in
+    let n = s .patterns in
+    let settings = c .before .before .before .before .before .before .before .before .before .before .before .put-settings .ensures in
+    let pairs = c .before .before .before .before .before .before .before .put-pairs .ensures in
     c .before .before .put-bodies .ensures
-    ∙ (λ i. sets (c .before .before .before .before .before .before .before .put-pairs .ensures i) (45 + 4 * c .before .before .before .wide .ensures i) (bodiesBytes xs))
-    ∙ (λ i. sets (sets (c .before .before .before .before .before .before .before .before .before .before .before .put-settings .ensures i) 45 (pairsBytes (45 + 4 * n i) xs)) (45 + 4 * n i) (bodiesBytes xs))
-    ∙ sym (bank-parts (a .s) xs (now (a .out)) (fours (a .s) _ (c .before .before .before .before .before .before .before .before .before .before .before .before .before .before .good .1 .0)))
+    ∙ ap (λ (x : List ℕ). sets x (45 + 4 * n) (bodiesBytes xs)) (pairs ∙ ap (λ (x : List ℕ). sets x 45 (pairsBytes (45 + 4 * n) xs)) settings)
+    ∙ sym (bank-parts s xs n (now (start .args .out)) (fours s _ (start .good .1 .0)) (length-taken s (start .args .ps)))
 
 pub put-bank-spec : {M : Type 1} → statement M
 put-bank-spec =
     tie.close
     (tie.spec
-    put-settings-requires
+    (λ c κs. omega (arith, room (c .before .before)))
     put-pairs-requires
-    wide-requires
-    mul-put-bodies
-    add-put-bodies
+    (λ c. omega arith)
+    (λ c. omega arith)
+    (λ c. omega arith)
     put-bodies-requires
     same-length
     returns)

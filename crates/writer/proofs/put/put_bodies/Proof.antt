@@ -2,148 +2,84 @@
 -- into the buffer as it is.
 -- Assumes nothing.
 use mathlib.Core.Path.{_≡_, refl, sym, ap, _∙_}
-use mathlib.Core.List.{List, [], _∷_}
-use Prim.Native.Nat.{ℕ, _+_, _*_, _-_, _≤_}
+use mathlib.Core.List.{List}
+use Prim.Native.Nat.{_+_, _*_, _-_, _^_, _≤_, _<_, zero-le}
+use native.Mathlib.Numerals.{add-one-le}
 use native.Mathlib.Omega.{arith}
-use lib.ListN.{length, getD, take, drop}
 use denote.Ref.{now}
+use lib.ListN.{length}
 use lib.Seq.{sets}
-use Rattle.field.specs.Row.{row, total}
-use Rattle.field.proofs.Rows.{stored-row}
 use Rattle.bank.specs.View.{Pattern}
-use Rattle.bank.specs.declared.Step.{Step}
-use Rattle.bank.specs.declared.Patterns.{Patterns}
-use Rattle.writer.specs.Encode.{stepsBytes, bodiesBytes}
-use Rattle.writer.specs.Write.{takenOf, takenFrom}
-use Rattle.writer.proofs.Taken.{rest, rest-start, rest-end, Fit, fit-by, sumTo, sum-more, next-in}
-use Rattle.writer.proofs.Values.{all-steps}
+use Rattle.writer.specs.Encode.{bodiesBytes}
+use Rattle.writer.proofs.Views.{rest, rest-end}
+use Rattle.writer.proofs.Taken.{countAt, patternIn, taken-rest, Fit, fit-of, sumTo, sum-more, next-in}
+use Rattle.writer.proofs.Values.{patterns-fit}
 use Rattle.writer.proofs.Sizes.{bodies-size, bodies-turn}
 use borrow.Author.Needs.{needs}
 use Rattle.writer.proofs.put.put_bodies.Statement.{statement}
 use Rattle.writer.proofs.put.put_bodies.Tie as tie
 
 abbrev Inv-loop : tie.InvT-loop
-Inv-loop out₀ from n runs counts steps widths at₀ base₀ p₀ out at base p =
-    (p ≤ n) × (base ≡ sumTo counts p)
-    × (at + length (bodiesBytes (rest (record { runs = runs; counts = counts; steps = steps }) n p base)) ≤ length out) × (length out ≡ length out₀)
-    × (sets out₀ from (bodiesBytes (takenFrom (record { runs = runs; counts = counts; steps = steps }) 0 0 n))
-    ≡ sets out at (bodiesBytes (rest (record { runs = runs; counts = counts; steps = steps }) n p base)))
+Inv-loop out₀ from ps n at₀ base₀ p₀ out at base p =
+    (p ≤ n) × (n ≤ 15) × (base ≡ sumTo (ps .counts) p) × (at + length (bodiesBytes (rest (patternIn ps) n p)) ≤ length out) × (length out ≡ length out₀)
+    × (sets out₀ from (bodiesBytes (rest (patternIn ps) n 0)) ≡ sets out at (bodiesBytes (rest (patternIn ps) n p)))
 
 abbrev μ-loop : tie.MeasureT-loop
-μ-loop out₀ from n runs counts steps widths at₀ base₀ p₀ out at base p = n - p
+μ-loop out₀ from ps n at₀ base₀ p₀ out at base p = n - p
 
-fit : (c : tie.After-wide Inv-loop μ-loop) → Fit (c .wide .result) (c .before .before .args .ps .counts)
-fit c = fit-by (c .before .before .args .s) (c .before .before .args .ps) (c .wide .ensures) (c .before .before .pre .0)
+fit : (c : tie.Start Inv-loop μ-loop) → Fit (c .args .s .patterns) (c .args .t4)
+fit c = fit-of (c .args .s) (c .args .t4) (c .pre .0)
 
--- the next pattern's steps are there, and its body has room
-room : (c : tie.After-wide2 Inv-loop μ-loop) →
-    let ps = c .before .before .before .before .before .before .before .before .args .ps in
-    let l = c .before .before .loop in
-    (l .base + getD (ps .counts) (l .p) 0 ≤ 99) × (l .base + getD (ps .counts) (l .p) 0 ≤ length (ps .steps))
-    × (l .at + (2 + 9 * getD (ps .counts) (l .p) 0) + length (bodiesBytes (rest ps (c .before .before .before .before .before .before .wide .result) (l .p + 1) (l .base + getD (ps .counts) (l .p) 0))) ≤ length (l .out))
+-- there is a pattern, its steps are there, and its body has room
+room : (c : tie.In-loop Inv-loop μ-loop) →
+    let ps = c .before .before .before .before .args .t4 in
+    let n = c .before .before .before .before .args .s .patterns in
+    let l = c .before .loop in
+    let count = countAt ps (l .p) in
+    (l .p < n) × (n ≤ 15) × (l .base ≡ sumTo (ps .counts) (l .p)) × (l .base + count ≤ 99) × (sumTo (ps .counts) (l .p) + count ≤ length (ps .steps))
+    × (l .at + (2 + 9 * count) + length (bodiesBytes (rest (patternIn ps) n (l .p + 1))) ≤ length (l .out)) × (length (l .out) < 2 ^ 64)
 room c =
-    let ps = c .before .before .before .before .before .before .before .before .args .ps in
-    let l = c .before .before .loop in
-    let n = c .before .before .before .before .before .before .wide .result in
-    let in99 : l .base + getD (ps .counts) (l .p) 0 ≤ 99 = omega (arith, next-in n (ps .counts) (fit (c .before .before .before .before .before .before)) (l .p) (c .before .loop-test .taken)) in
-    let there : l .base + getD (ps .counts) (l .p) 0 ≤ length (ps .steps) = omega (arith, all-steps ps _ (c .before .before .before .before .before .before .before .before .good .1 .1 .1 .0)) in
-    (in99, there, omega (arith, l .inv .2, bodies-size ps n (l .p) (l .base) (c .before .loop-test .taken) there))
-
-wide-requires : tie.Need-wide-requires Inv-loop μ-loop
-wide-requires c κs = search needs
+    let start = c .before .before .before .before in
+    let ps = start .args .t4 in
+    let l = c .before .loop in
+    let n = start .args .s .patterns in
+    let h = c .loop-test .taken in
+    let few = next-in n ps (fit start) (l .p) h in
+    let there : sumTo (ps .counts) (l .p) + countAt ps (l .p) ≤ length (ps .steps) = omega (arith, few, patterns-fit ps _ (start .good .1 .1 .1 .0) .size) in
+    let small = start .good .0 .0 in
+    (h, l .inv .1, l .inv .2, omega (arith, few, l .inv .2), there, omega (arith, l .inv .3, bodies-size ps n (l .p) h there), omega (arith, small, l .inv .4))
 
 loop-holds : tie.Need-loop-holds Inv-loop μ-loop
-unfolding takenOf sumTo
+unfolding sumTo
 loop-holds c =
-    let a = c .before .before .before .before .before .args in
-    let n = c .before .before .before .wide .result in
-    let all : takenFrom (a .ps) 0 0 (a .s .patterns) ≡ rest (a .ps) n 0 0 = ap (takenFrom (a .ps) 0 0) (sym (c .before .before .before .wide .ensures)) ∙ rest-start (a .ps) n in
-    let same = ap (λ (xs : List Pattern). length (bodiesBytes xs)) all in
-    (omega arith, refl, omega (arith, same, c .before .before .before .before .before .pre .1), refl, ap (λ (xs : List Pattern). sets (now (a .out)) (a .from) (bodiesBytes xs)) (rest-start (a .ps) n))
-
-array-read-wide : tie.Need-array-read-wide Inv-loop μ-loop
-array-read-wide c = omega (arith, fit (c .before .before .before .before .before) .few)
-
-wide-requires-2 : tie.Need-wide-requires-2 Inv-loop μ-loop
-wide-requires-2 c κs = search needs
-
-array-read-long8 : tie.Need-array-read-long8 Inv-loop μ-loop
-array-read-long8 c = omega (arith, fit (c .before .before .before .before .before .before) .few)
-
-long8-requires : tie.Need-long8-requires Inv-loop μ-loop
-long8-requires c κs = search needs
-
-array-read-long8-2 : tie.Need-array-read-long8-2 Inv-loop μ-loop
-array-read-long8-2 c = omega (arith, fit (c .before .before .before .before .before .before .before) .few)
-
-long8-requires-2 : tie.Need-long8-requires-2 Inv-loop μ-loop
-long8-requires-2 c κs = search needs
-
-slice-aggregate-put-row : tie.Need-slice-aggregate-put-row Inv-loop μ-loop
-slice-aggregate-put-row c = search needs
-
-slice-aggregate-put-row-2 : tie.Need-slice-aggregate-put-row-2 Inv-loop μ-loop
-slice-aggregate-put-row-2 c = search needs
-
-put-row-requires : tie.Need-put-row-requires Inv-loop μ-loop
-put-row-requires c κs = search needs
-
-add-put-steps : tie.Need-add-put-steps Inv-loop μ-loop
-add-put-steps c = omega (arith, room (c .before .before .before .before .before .before .before .before .before) .2, c .before .before .before .before .before .before .before .before .before .before .before .before .before .before .before .before .before .good .0)
-
-put-steps-requires : tie.Need-put-steps-requires Inv-loop μ-loop
-put-steps-requires c κs = let r = room (c .before .before .before .before .before .before .before .before .before) in (omega (arith, r .0), omega (arith, r .2, c .before .before .before .put-row .kept .0))
-
-mul-at : tie.Need-mul-at Inv-loop μ-loop
-mul-at c = omega (arith, room (c .before .before .before .before .before .before .before .before .before .before .before .before) .0)
-
-add-at : tie.Need-add-at Inv-loop μ-loop
-add-at c = omega (arith, room (c .before .before .before .before .before .before .before .before .before .before .before .before) .0)
-
-add-at-2 : tie.Need-add-at-2 Inv-loop μ-loop
-add-at-2 c = omega (arith, room (c .before .before .before .before .before .before .before .before .before .before .before .before) .2, c .before .before .before .before .before .before .before .before .before .before .before .before .before .before .before .before .before .before .before .before .good .0)
-
-add-base : tie.Need-add-base Inv-loop μ-loop
-add-base c = omega (arith, room (c .before .before .before .before .before .before .before .before .before .before .before .before) .0)
-
-add-p : tie.Need-add-p Inv-loop μ-loop
-add-p c = omega (arith, fit (c .before .before .before .before .before .before .before .before .before .before .before .before .before .before .before .before .before .before) .few)
-
-loop-less : tie.Need-loop-less Inv-loop μ-loop
-loop-less c = search needs
+    let start = c .before .before in
+    let same = ap (λ (xs : List Pattern). length (bodiesBytes xs)) (taken-rest (start .args .s) (start .args .t4)) in
+    (zero-le, fit start .few, refl, omega (arith, same, start .pre .1), refl, refl)
 
 loop-again : tie.Need-loop-again Inv-loop μ-loop
-unfolding total
 loop-again c =
-    let ps = c .before .before .before .before .before .before .before .before .before .before .before .before .before .before .before .before .before .before .before .before .args .ps in
-    let l = c .before .before .before .before .before .before .before .before .before .before .before .before .before .before .loop in
-    let n = c .before .before .before .before .before .before .before .before .before .before .before .before .before .before .before .before .before .before .wide .result in
-    let r = room (c .before .before .before .before .before .before .before .before .before .before .before .before) in
-    let count : c .before .before .before .before .before .before .before .before .before .before .before .before .wide2 .result ≡ getD (ps .counts) (l .p) 0 = c .before .before .before .before .before .before .before .before .before .before .before .before .wide2 .ensures in
-    let widths : List ℕ = 1 ∷ 1 ∷ [] in
-    let start = c .before .before .before .before .before .before .put-row .ensures ∙ stored-row widths (l .out) (l .at) _ (omega arith) (omega (arith, r .2))
-    ∙ (λ i. sets (l .out) (l .at) (row widths (c .before .before .before .before .before .before .before .before .before .before .before .long8 .ensures i ∷ c .before .before .before .before .before .before .before .before .before .before .long82 .ensures i ∷ []))) in
-    let put = c .before .before .put-steps .ensures ∙ (λ i. sets (start i) (l .at + 2) (stepsBytes (take (count i) (drop (l .base) (ps .steps))))) in
-    let size = ap (λ (k : ℕ). length (bodiesBytes (rest ps n (l .p + 1) (l .base + k)))) count in (
-      omega arith,
-      omega (arith, sum-more (ps .counts) (l .p)),
-      omega (arith, r .2, size, c .before .before .put-steps .kept .0, c .before .before .before .before .before .before .put-row .kept .0),
-      c .before .before .put-steps .kept .0 ∙ c .before .before .before .before .before .before .put-row .kept .0 ∙ l .inv .3,
-      l .inv .4 ∙ bodies-turn ps n (l .p) (l .base) (c .before .before .before .before .before .before .before .before .before .before .before .before .before .loop-test .taken) (r .1) (l .out) (l .at)
-          ∙ (λ i. sets (sym put i) (l .at + (2 + 9 * sym count i)) (bodiesBytes (rest ps n (l .p + 1) (l .base + sym count i)))),
+    let a = c .before .before .before .before .before .before .before .before .before .before .before .args in
+    let ps = a .t4 in
+    let l = c .before .before .before .before .before .before .before .before .loop in
+    let put = c .before .before .put-body in
+    let r = room (c .before .before .before .before .before .before .before) in (
+      add-one-le (r .0),
+      l .inv .1,
+      omega (arith, r .2, sum-more (ps .counts) (l .p)),
+      omega (arith, r .5, put .kept .0),
+      put .kept .0 ∙ l .inv .4,
+      l .inv .5 ∙ bodies-turn ps (a .s .patterns) (l .p) (r .0) (r .4) (l .out) (l .at) (l .base) (r .2) (put .ensures),
     )
 
-same-length : tie.Need-same-length Inv-loop μ-loop
-same-length c = search needs
-
 returns : tie.Need-returns Inv-loop μ-loop
-unfolding takenOf bodiesBytes
+unfolding bodiesBytes
 returns c =
-    let a = c .before .before .before .before .before .before .before .args in
+    let start = c .before .before .before .before in
     let l = c .before .loop in
-    let n = c .before .before .before .before .before .wide .result in
-    sym (ap (λ (m : ℕ). sets (now (a .out)) (a .from) (bodiesBytes (takenFrom (a .ps) 0 0 m))) (sym (c .before .before .before .before .before .wide .ensures))
-    ∙ l .inv .4 ∙ ap (λ (xs : List Pattern). sets (l .out) (l .at) (bodiesBytes xs)) (rest-end (a .ps) n (l .p) (l .base) (c .loop-test .left)))
+    let s = start .args .s in
+    let ps = start .args .t4 in
+    sym (ap (λ (xs : List Pattern). sets (now (start .args .out)) (start .args .from) (bodiesBytes xs)) (taken-rest s ps)
+    ∙ l .inv .5 ∙ ap (λ (xs : List Pattern). sets (l .out) (l .at) (bodiesBytes xs)) (rest-end (patternIn ps) (s .patterns) (l .p) (c .loop-test .left)))
 
 pub put-bodies-spec : {M : Type 1} → statement M
 put-bodies-spec =
@@ -151,25 +87,19 @@ put-bodies-spec =
     (tie.spec
     Inv-loop
     μ-loop
-    wide-requires
+    (λ c. search needs)
     loop-holds
-    array-read-wide
-    wide-requires-2
-    array-read-long8
-    long8-requires
-    array-read-long8-2
-    long8-requires-2
-    slice-aggregate-put-row
-    slice-aggregate-put-row-2
-    put-row-requires
-    add-put-steps
-    put-steps-requires
-    mul-at
-    add-at
-    add-at-2
-    add-base
-    add-p
-    loop-less
+    (λ c. omega (arith, room c))
+    (λ c. omega (arith, room (c .before .before)))
+    (λ c κs. omega (arith, room (c .before .before .before .before)))
+    (λ c. omega (arith, room (c .before .before .before .before .before .before .before)))
+    (λ c. omega (arith, room (c .before .before .before .before .before .before .before)))
+    (λ c. omega (arith, room (c .before .before .before .before .before .before .before)))
+    (λ c. omega (arith, room (c .before .before .before .before .before .before .before)))
+    (λ c. omega (arith, room (c .before .before .before .before .before .before .before)))
+    (λ c. omega (arith, room (c .before .before .before .before .before .before .before)))
+    (λ c. omega (arith, room (c .before .before .before .before .before .before .before)))
+    (λ c. omega (arith, room (c .before .before .before .before .before .before .before)))
     loop-again
-    same-length
+    (λ c. c .before .loop .inv .4)
     returns)

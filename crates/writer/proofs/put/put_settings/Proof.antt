@@ -1,54 +1,52 @@
 -- `writer::put::put_settings` meets its contract: three rows, one behind the other.
 -- Assumes nothing.
-use mathlib.Core.Path.{_≡_, refl, ap, _∙_}
-use native.Mathlib.Omega.{arith}
-use mathlib.Core.List.{List}
+use mathlib.Core.Path.{_≡_, refl, _∙_}
+use mathlib.Core.List.{List, _++_}
 use Prim.Native.Nat.{ℕ}
+use native.Mathlib.Omega.{arith}
 use denote.Ref.{now}
-use lib.ListN.{length, replicate}
-use lib.Seq.{sets}
-use Rattle.field.specs.Row.{row, total}
-use mathlib.Core.List.{_++_}
-use lib.ListN.{take}
-use Rattle.field.proofs.Rows.{sets-rows}
+use lib.ListN.{length, take, replicate}
+use Rattle.field.specs.Row.{total}
 use Rattle.writer.specs.Encode.{settingWidths, settingNumbers, paired}
+use Rattle.writer.proofs.Rows.{rows-put}
 use Rattle.writer.proofs.Sizes.{length-paired}
-use borrow.Author.Needs.{needs}
+use Rattle.writer.proofs.Values.{fours}
 use Rattle.writer.proofs.put.put_settings.Statement.{statement}
 use Rattle.writer.proofs.put.put_settings.Tie as tie
-use Rattle.writer.proofs.put.put_halves.Reads as put-halves-reads
-use Rattle.writer.proofs.put.put_head.Reads as put-head-reads
-
-put-head-requires : tie.Need-put-head-requires
-put-head-requires c κs = search needs
 
 put-halves-requires : tie.Need-put-halves-requires
-put-halves-requires c κs = search needs
+put-halves-requires c κs = omega (arith, c .before .before .before .before .before .before .before .before .pre, c .before .before .before .before .before .put-head .kept .0)
 
 put-halves-requires-2 : tie.Need-put-halves-requires-2
-put-halves-requires-2 c κs = search needs
+put-halves-requires-2 c κs =
+    let start = c .before .before .before .before .before .before .before .before .before .before .before .before .before .before in
+    let head = c .before .before .before .before .before .before .before .before .before .before .before .put-head in
+    omega (arith, start .pre, head .kept .0, c .before .before .before .before .before .put-halves .kept .0)
 
 same-length : tie.Need-same-length
-same-length c = search needs
+same-length c =
+    let head = c .before .before .before .before .before .before .before .before .before .before .before .before .before .before .put-head in
+    let waiting = c .before .before .before .before .before .before .before .before .put-halves in
+    c .before .before .put-halves2 .kept .0 ∙ waiting .kept .0 ∙ head .kept .0
 
 returns : tie.Need-returns
 unfolding total
 returns c =
-    let a = c .before .before .before .before .before .before .before .before .before .before .before .before .before .before .before .before .before .args in
-    let s = a .s in
-    let out = now (a .out) in
+    let start = c .before .before .before .before .before .before .before .before .before .before .before .before .before .before .before .before .before in
+    let s = start .args .s in
+    let out = now (start .args .out) in
     let head = take 8 (settingNumbers s) in
     let waiting = paired (s .zones) (s .waits) in
     let signals = paired (s .on) (s .off) in
     let two : List ℕ = replicate 8 2 in
-    let zones : length (s .zones) ≡ 4 = search needs in
-    let waits : length (s .waits) ≡ 4 = search needs in
-    c .before .before .put-halves2 .ensures
-    ∙ ap (λ (x : List ℕ). sets x 29 (row two signals)) (c .before .before .before .before .before .before .before .before .put-halves .ensures ∙ ap (λ (x : List ℕ). sets x 13 (row two waiting)) (c .before .before .before .before .before .before .before .before .before .before .before .before .before .before .put-head .ensures)
-    ∙ sets-rows (take 8 settingWidths) head two waiting out 0 refl)
-    ∙ sets-rows (take 16 settingWidths) (head ++ waiting) two signals out 0 (omega (arith, length-paired 4 (s .zones) (s .waits) zones waits))
+    let four = fours s _ (start .good .1 .0) in
+    let size : 16 ≡ length (head ++ waiting) = omega (arith, length-paired 4 (s .zones) (s .waits) (four .zones) (four .waits)) in
+    let one = c .before .before .before .before .before .before .before .before .before .before .before .before .before .before .put-head .ensures in
+    let other = c .before .before .before .before .before .before .before .before .put-halves .ensures in
+    let first = rows-put (take 8 settingWidths) head two waiting out 0 refl one other in
+    rows-put (take 16 settingWidths) (head ++ waiting) two signals out 0 size first (c .before .before .put-halves2 .ensures)
 
 pub put-settings-spec : {M : Type 1} → statement M
 put-settings-spec =
     tie.close
-    (tie.spec put-head-requires put-halves-requires put-halves-requires-2 same-length returns)
+    (tie.spec (λ c κs. c .before .before .pre) put-halves-requires put-halves-requires-2 same-length returns)

@@ -1,0 +1,2 @@
+-- What a line of `sheet` asks for.
+pub mod Line

@@ -1,0 +1,38 @@
+-- `line::lines::event` meets its contract, by the event.
+-- Assumes nothing.
+use borrow.Author.Needs.{needs}
+use Rattle.line.proofs.lines.event.Statement.{statement}
+use Rattle.line.proofs.lines.event.Tie as tie
+
+returns : tie.Need-returns
+returns c = rw (c .before .before .before .before .before .e .given .1) (c .before .before .tick .ensures)
+
+returns-2 : tie.Need-returns-2
+returns-2 c = rw (c .before .before .before .before .before .e2 .given .1) (c .before .before .command .ensures)
+
+returns-3 : tie.Need-returns-3
+returns-3 c = rw (c .before .before .before .before .enum-told .given .1) (c .before .before .cut .ensures)
+
+returns-4 : tie.Need-returns-4
+returns-4 c = rw (c .before .before .before .before .before .e3 .given .1) (c .before .before .restore .ensures)
+
+pub event-spec : {M : Type 1} → statement M
+event-spec =
+    tie.close
+    (tie.spec
+    (λ c. search needs)
+    (λ c κs. search needs)
+    (λ c. search needs)
+    (λ c κs. search needs)
+    (λ c. search needs)
+    (λ c κs. search needs)
+    (λ c. search needs)
+    (λ c κs. search needs)
+    (λ c. search needs)
+    returns
+    (λ c. search needs)
+    returns-2
+    (λ c. search needs)
+    returns-3
+    (λ c. search needs)
+    returns-4)

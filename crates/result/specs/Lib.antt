@@ -1,0 +1,2 @@
+-- A result as one number.
+pub mod Result

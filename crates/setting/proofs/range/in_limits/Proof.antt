@@ -1,0 +1,14 @@
+-- `setting::range::in_limits` meets its contract.
+-- Assumes nothing.
+use mir.Facts.{toZ-ofZ}
+use Rattle.setting.proofs.Laws.{both-and}
+use Rattle.setting.specs.Range.{within}
+use Rattle.setting.proofs.range.in_limits.Statement.{statement}
+use Rattle.setting.proofs.range.in_limits.Tie as tie
+
+returns : tie.Need-returns
+unfolding within
+returns c = rw (toZ-ofZ (c .fits .low), toZ-ofZ (c .fits .x), toZ-ofZ (c .fits .high)) (simp both-and)
+
+pub in-limits-spec : {M : Type 1} → statement M
+in-limits-spec = tie.close (tie.spec returns)

@@ -1,0 +1,14 @@
+-- `setting::range::is_temperature` meets its contract.
+-- Assumes nothing.
+use mir.Facts.{toZ-ofZ}
+use Rattle.setting.proofs.Laws.{both-and}
+use Rattle.setting.specs.Range.{within, temperature}
+use Rattle.setting.proofs.range.is_temperature.Statement.{statement}
+use Rattle.setting.proofs.range.is_temperature.Tie as tie
+
+returns : tie.Need-returns
+unfolding temperature within
+returns c = rw (toZ-ofZ (c .fits .x)) (simp both-and)
+
+pub is-temperature-spec : {M : Type 1} → statement M
+is-temperature-spec = tie.close (tie.spec returns)

@@ -1,0 +1,72 @@
+-- `setting::reading::settings_in` meets its contract.
+-- Assumes nothing.
+use Prim.Native.Nat.{ℕ, _+_, _*_}
+use mathlib.Core.Path.{_≡_, sym, ap, _∙_}
+use denote.Ref.{now}
+use lib.ListN.{getD}
+use mir.Syntax.{w16}
+use mir.Val.{toZ}
+use Rattle.field.specs.Field.{field, signedField}
+use Rattle.field.proofs.Laws.{field-one, field-two}
+use Rattle.setting.proofs.Laws.{bits}
+use Rattle.setting.specs.Setting.{settingsAt}
+use borrow.Author.Needs.{needs}
+use Rattle.setting.proofs.reading.settings_in.Statement.{statement}
+use Rattle.setting.proofs.reading.settings_in.Tie as tie
+
+returns : tie.Need-returns
+unfolding settingsAt signedField
+returns c =
+    let initial = c .before .before .before .before .before .before in
+    let high = initial .before .before .before .before in
+    let low = high .before .before .before .before in
+    let off = low .before .before .before .before .before .before .before in
+    let start = off .before .before .before .before .before in
+    let b = now (start .args .bank) in
+    let byte : (i : ℕ) → getD b i 0 ≡ field 1 b i = λ i. sym (field-one b i) in
+    let word : (i : ℕ) → getD b i 0 + 256 * getD b (i + 1) 0 ≡ field 2 b i = λ i. sym (field-two b i) in
+    λ i. record {
+      patterns = byte 0 i;
+      start = byte 1 i;
+      outage = byte 2 i;
+      low = (bits (low .signed-of .ok) ∙ low .signed-of .ensures ∙ ap (toZ w16) (low .before .join2 .ensures ∙ word 3)) i;
+      high = (bits (high .signed-of2 .ok) ∙ high .signed-of2 .ensures ∙ ap (toZ w16) (high .before .join22 .ensures ∙ word 5)) i;
+      initial = (bits (initial .signed-of3 .ok) ∙ initial .signed-of3 .ensures ∙ ap (toZ w16) (initial .before .join23 .ensures ∙ word 7)) i;
+      width = (c .before .before .before .join24 .ensures ∙ word 9) i;
+      filter = (c .join25 .ensures ∙ word 11) i;
+      zones = off .before .before .before .four-words .ensures i;
+      waits = off .before .before .four-words2 .ensures i;
+      on = off .before .four-words3 .ensures i;
+      off = off .four-words4 .ensures i;
+    }
+
+pub settings-in-spec : {M : Type 1} → statement M
+settings-in-spec =
+    tie.close
+    (tie.spec
+    (λ c κs. search needs)
+    (λ c κs. search needs)
+    (λ c κs. search needs)
+    (λ c κs. search needs)
+    (λ c. search needs)
+    (λ c. search needs)
+    (λ c. search needs)
+    (λ c. search needs)
+    (λ c. search needs)
+    (λ c κs. search needs)
+    (λ c κs. search needs)
+    (λ c. search needs)
+    (λ c. search needs)
+    (λ c κs. search needs)
+    (λ c κs. search needs)
+    (λ c. search needs)
+    (λ c. search needs)
+    (λ c κs. search needs)
+    (λ c κs. search needs)
+    (λ c. search needs)
+    (λ c. search needs)
+    (λ c κs. search needs)
+    (λ c. search needs)
+    (λ c. search needs)
+    (λ c κs. search needs)
+    returns)

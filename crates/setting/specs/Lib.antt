@@ -1,0 +1,4 @@
+-- The definitions that the contracts of `setting` cite, in the order of the document.
+pub mod Range
+pub mod Found
+pub mod Setting

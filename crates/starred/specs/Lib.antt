@@ -1,0 +1,2 @@
+-- The starred examples.
+pub mod Table

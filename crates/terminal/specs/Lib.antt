@@ -1,0 +1,2 @@
+-- What a program that reads can promise of its input.
+pub mod Input
