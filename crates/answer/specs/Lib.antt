@@ -1,2 +1,2 @@
--- An answer's number and values, as a struct.
+-- The numbers of a bank's refusal, as a struct.
 pub mod Numbers

@@ -1,4 +1,4 @@
--- The document's number of an answer and its two values, 0 where it has none, and how many numbers that are.
+-- The document's number of what a check found and its two values, 0 where it has none, and how many numbers that are.
 -- Assumes nothing.
 use Prim.Native.Nat.{ℕ}
 use mathlib.Core.List.{List}

@@ -1,9 +1,12 @@
-// An answer as numbers: the document's number of it, and its two values.
+// Answers as numbers: the document's number of an answer, and the values of a bank's refusal.
 ghost use mathlib.Core.Path.{_≡_};
+ghost use lib.IntN.{pos};
+ghost use lib.ListN.{getD};
 ghost use Rattle.setting.specs.Found.{numbersOf as bankNumbers};
-ghost use Rattle.controller.specs.Event.{numbersOf};
+ghost use Rattle.plain.specs.Answer.{numberOf, numbersOf};
 ghost use Rattle.answer.specs.Numbers.{numberAndValues};
-use controller::Answer;
+use plain::Answer;
+use plain::Refusal;
 use setting::Checked;
 
 // The number, 0 if accepted, and its values, 0 where it has none; how many numbers that are.
@@ -54,23 +57,32 @@ pub fn of_checked(found: Checked) -> Numbers
     }
 }
 
-// An answer to making or to an event.
-pub fn of_answer(a: Answer) -> Numbers
-    ensures { λ r. ⌜ r ≡ numberAndValues (numbersOf a) ⌝ }
+// The number of a refusal.
+fn of_refusal(refusal: Refusal) -> u8
+    ensures { λ r. ⌜ r ≡ numberOf refusal ⌝ }
 {
-    match a {
-        Answer::Accepted(_, _) => alone(0),
-        Answer::Bank(found) => of_checked(found),
-        Answer::Unsound => alone(21),
-        Answer::Buffer => alone(22),
-        Answer::PowerOff => alone(23),
-        Answer::PowerOn => alone(24),
-        Answer::Outside => alone(25),
-        Answer::NoPattern => alone(26),
-        Answer::WrongMode => alone(27),
-        Answer::NoStep => alone(28),
-        Answer::NoValue => alone(29),
-        Answer::Stuck => alone(30),
-        Answer::Unreadable => alone(31),
+    match refusal {
+        Refusal::Unsound => 21,
+        Refusal::Buffer => 22,
+        Refusal::PowerOff => 23,
+        Refusal::PowerOn => 24,
+        Refusal::Outside => 25,
+        Refusal::NoPattern => 26,
+        Refusal::WrongMode => 27,
+        Refusal::NoStep => 28,
+        Refusal::NoValue => 29,
+        Refusal::Stuck => 30,
+        Refusal::Unreadable => 31,
+    }
+}
+
+// The number of an answer.
+pub fn number(answer: Answer) -> u8
+    ensures { λ r. ⌜ pos r ≡ getD (numbersOf answer) 0 (pos 0) ⌝ }
+{
+    match answer {
+        Answer::Accepted(_) => 0,
+        Answer::Bank(found) => of_checked(found).number,
+        Answer::Refused(refusal) => of_refusal(refusal),
     }
 }

@@ -1,3 +1,4 @@
+-- What is known of an accepted bank, and the laws that the proofs of `bank` cite.
 pub mod Table
 pub mod Walk
 pub mod Facts

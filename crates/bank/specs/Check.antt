@@ -24,14 +24,14 @@ pairRight offset len due capacity size =
 
 -- m pairs from pair i on, whose body is due at an offset; each next body is due where the one before ends, and the last ends the bank
 unfoldable pub pairsFrom : List ℕ → ℕ → ℕ → ℕ → ℕ → Checked
-pairsFrom b n zero i due = test (eqb due (length b)) (Pair n) Accepted
-pairsFrom b n (suc m) i due =
-    test (pairRight (offsetOf b i) (lengthOf b i) due (capacityOf n) (length b)) (Pair i)
-    (pairsFrom b n m (i + 1) (due + lengthOf b i))
+pairsFrom bank n zero i due = test (eqb due (length bank)) (Pair n) Accepted
+pairsFrom bank n (suc m) i due =
+    test (pairRight (offsetOf bank i) (lengthOf bank i) due (capacityOf n) (length bank)) (Pair i)
+    (pairsFrom bank n m (i + 1) (due + lengthOf bank i))
 
 -- pair 0 if the pairs pass the end; the first body starts at 45 + 4n
 unfoldable pub pairsFound : List ℕ → ℕ → Checked
-pairsFound b n = test (leb (45 + 4 * n) (length b)) (Pair 0) (pairsFrom b n n 1 (45 + 4 * n))
+pairsFound bank n = test (leb (45 + 4 * n) (length bank)) (Pair 0) (pairsFrom bank n n 1 (45 + 4 * n))
 
 -- ---- 14: the bodies
 
@@ -42,13 +42,13 @@ signalsRight xs =
 
 -- target SLL to SLH, minutes to 6,000, wait number to 4
 unfoldable pub stepRight : ℤ → ℤ → Step → Bool
-stepRight low high s =
-    both (within low (s .target) high) (both (leb (s .minutes) 6000) (both (leb (s .wait) 4) (signalsRight (s .signals))))
+stepRight low high step =
+    both (within low (step .target) high) (both (leb (step .minutes) 6000) (both (leb (step .wait) 4) (signalsRight (step .signals))))
 
 -- the steps of pattern p, from step k on
 unfoldable pub stepsFound : ℤ → ℤ → ℕ → ℕ → List Step → Checked
 stepsFound low high p k [] = Accepted
-stepsFound low high p k (s ∷ ss) = test (stepRight low high s) (Body p k) (stepsFound low high p (k + 1) ss)
+stepsFound low high p k (step ∷ steps) = test (stepRight low high step) (Body p k) (stepsFound low high p (k + 1) steps)
 
 -- the patterns, from pattern p on: runs, s, steps in order. Which s is right is given, since a bank's s is that of its length, and a
 -- writer's is at most the capacity
@@ -65,7 +65,7 @@ ofLength x = eqb (x .count) (length (x .steps))
 -- ---- the whole bank
 
 unfoldable pub foundIn : List ℕ → Checked
-foundIn b =
-    then (settingsIn b)
-    (then (pairsFound b (settingsAt b .patterns))
-    (bodiesFound ofLength (settingsAt b .low) (settingsAt b .high) 1 (patternsOf b)))
+foundIn bank =
+    then (settingsIn bank)
+    (then (pairsFound bank (settingsAt bank .patterns))
+    (bodiesFound ofLength (settingsAt bank .low) (settingsAt bank .high) 1 (patternsOf bank)))

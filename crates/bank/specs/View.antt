@@ -12,10 +12,10 @@ use Rattle.bank.specs.declared.Place.{Place}
 
 -- pair p (from 1) of body offset and length
 abbrev pub offsetOf : List ℕ → ℕ → ℕ
-offsetOf b p = field 2 b (41 + 4 * p)
+offsetOf bank p = field 2 bank (41 + 4 * p)
 
 abbrev pub lengthOf : List ℕ → ℕ → ℕ
-lengthOf b p = field 2 b (43 + 4 * p)
+lengthOf bank p = field 2 bank (43 + 4 * p)
 
 -- the s of a length 2 + 9s
 abbrev pub stepsIn : ℕ → ℕ
@@ -23,11 +23,11 @@ stepsIn len = (len - 2) / 9
 
 -- the step of nine bytes at an offset: target, minutes, wait number, four time signals
 unfoldable pub stepAt : List ℕ → ℕ → Step
-stepAt b at = record {
-  target = signedField w16 b at;
-  minutes = field 2 b (at + 2);
-  wait = field 1 b (at + 4);
-  signals = tab (field 1 b) 1 (at + 5) 4;
+stepAt bank at = record {
+  target = signedField w16 bank at;
+  minutes = field 2 bank (at + 2);
+  wait = field 1 bank (at + 4);
+  signals = tab (field 1 bank) 1 (at + 5) 4;
 }
 
 -- a pattern: runs, count (the body's s), and its steps
@@ -38,15 +38,15 @@ pub record Pattern : Type 0 where
 
 -- the body of pattern p (from 1): runs, s, then the steps of its length
 unfoldable pub patternAt : List ℕ → ℕ → Pattern
-patternAt b p = record {
-  runs = field 1 b (offsetOf b p);
-  count = field 1 b (offsetOf b p + 1);
-  steps = tab (stepAt b) 9 (offsetOf b p + 2) (stepsIn (lengthOf b p));
+patternAt bank p = record {
+  runs = field 1 bank (offsetOf bank p);
+  count = field 1 bank (offsetOf bank p + 1);
+  steps = tab (stepAt bank) 9 (offsetOf bank p + 2) (stepsIn (lengthOf bank p));
 }
 
 -- the n patterns
 unfoldable pub patternsOf : List ℕ → List Pattern
-patternsOf b = tab (patternAt b) 1 1 (field 1 b 0)
+patternsOf bank = tab (patternAt bank) 1 1 (field 1 bank 0)
 
 -- pattern p and its step k, counted from 1; nothing at a number that is not there
 unfoldable pub noPattern : Pattern
@@ -60,11 +60,11 @@ numbered none xs zero = none
 numbered none xs (suc i) = getD xs i none
 
 unfoldable pub patternOf : List ℕ → ℕ → Pattern
-patternOf b p = numbered noPattern (patternsOf b) p
+patternOf bank p = numbered noPattern (patternsOf bank) p
 
 unfoldable pub stepOf : List ℕ → ℕ → ℕ → Step
-stepOf b p k = numbered noStep (patternOf b p .steps) k
+stepOf bank p k = numbered noStep (patternOf bank p .steps) k
 
 -- both, with runs and count of the pattern
 unfoldable pub placeOf : List ℕ → ℕ → ℕ → Place
-placeOf b p k = record { step = stepOf b p k; count = patternOf b p .count; runs = patternOf b p .runs }
+placeOf bank p k = record { step = stepOf bank p k; count = patternOf bank p .count; runs = patternOf bank p .runs }

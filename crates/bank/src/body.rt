@@ -22,7 +22,7 @@ use setting::check_settings_in;
 use setting::in_limits;
 
 pub fn no_step() -> Step
-    ensures { λ r. ⌜ r ≡ noStep ⌝ }
+    ensures { λ result. ⌜ result ≡ noStep ⌝ }
 {
     Step {
         target: 0,
@@ -35,7 +35,7 @@ pub fn no_step() -> Step
 // The step at an offset, all of whose bytes are there.
 fn step_in(bytes: &[u8], at: usize) -> Step
     requires { ⌜ at + 9 ≤ length (now bytes) ⌝ }
-    ensures { λ r. ⌜ r ≡ stepAt (now (bytes .entry)) at ⌝ }
+    ensures { λ result. ⌜ result ≡ stepAt (now (bytes .entry)) at ⌝ }
 {
     let signals = [bytes[at + 5], bytes[at + 6], bytes[at + 7], bytes[at + 8]];
     Step {
@@ -48,7 +48,7 @@ fn step_in(bytes: &[u8], at: usize) -> Step
 
 // The step at an offset.
 pub fn step_at(bytes: &[u8], at: usize) -> Step
-    ensures { λ r. ⌜ r ≡ stepAt (now (bytes .entry)) at ⌝ }
+    ensures { λ result. ⌜ result ≡ stepAt (now (bytes .entry)) at ⌝ }
 {
     if bytes.len() <= at {
         return no_step();
@@ -71,18 +71,18 @@ pub fn step_at(bytes: &[u8], at: usize) -> Step
 }
 
 // Whether a step is right, under the set value limits.
-pub fn check_step(low: i16, high: i16, s: Step) -> bool
-    ensures { λ r. ⌜ r ≡ stepRight low high s ⌝ }
+pub fn check_step(low: i16, high: i16, step: Step) -> bool
+    ensures { λ result. ⌜ result ≡ stepRight low high step ⌝ }
 {
-    let signals = s.signals;
+    let signals = step.signals;
     let on = (signals[0] <= 5) & ((signals[1] <= 5) & ((signals[2] <= 5) & (signals[3] <= 5)));
-    in_limits(low, s.target, high) & ((s.minutes <= 6000) & ((s.wait <= 4) & on))
+    in_limits(low, step.target, high) & ((step.minutes <= 6000) & ((step.wait <= 4) & on))
 }
 
 // Whether the body at an offset has right runs, and the number of steps that its length gives.
 fn body_right(bank: &[u8], at: usize, s: usize) -> bool
     requires { ⌜ at + 2 ≤ length (now bank) ⌝ }
-    ensures { λ r. ⌜ r ≡ both (leb (field 1 (now (bank .entry)) at) 99) (eqb (field 1 (now (bank .entry)) (at + 1)) s) ⌝ }
+    ensures { λ result. ⌜ result ≡ both (leb (field 1 (now (bank .entry)) at) 99) (eqb (field 1 (now (bank .entry)) (at + 1)) s) ⌝ }
 {
     (bank[at] <= 99) & (bank[at + 1] as usize == s)
 }
@@ -90,7 +90,7 @@ fn body_right(bank: &[u8], at: usize, s: usize) -> bool
 // The bodies of n patterns, whose pairs are right: the first wrong field ends both loops, with its place.
 fn check_bodies(bank: &[u8], n: u8, low: i16, high: i16) -> Checked
     requires { ⌜ pairsFound (now bank) n ≡ Checked.Accepted ⌝ }
-    ensures { λ r. ⌜ r ≡ bodiesFound ofLength low high 1 (tab (patternAt (now (bank .entry))) 1 1 n) ⌝ }
+    ensures { λ result. ⌜ result ≡ bodiesFound ofLength low high 1 (tab (patternAt (now (bank .entry))) 1 1 n) ⌝ }
 {
     let mut p: u8 = 0;
     'walk: loop {
@@ -116,7 +116,7 @@ fn check_bodies(bank: &[u8], n: u8, low: i16, high: i16) -> Checked
 
 // The check of a bank.
 pub fn check(bank: &[u8]) -> Checked
-    ensures { λ r. ⌜ r ≡ foundIn (now (bank .entry)) ⌝ }
+    ensures { λ result. ⌜ result ≡ foundIn (now (bank .entry)) ⌝ }
 {
     let settings = check_settings_in(bank);
     let Checked::Accepted = settings else {

@@ -33,7 +33,7 @@ const CAPACITY: [u8; 15] = [99, 49, 33, 24, 19, 16, 14, 12, 11, 9, 9, 8, 7, 7, 6
 
 // The most steps that a pattern can have, with n patterns; 0 where n is not 1 to 15.
 pub fn capacity(n: u8) -> u8
-    ensures { λ r. ⌜ r ≡ capacityOf n ⌝ }
+    ensures { λ result. ⌜ result ≡ capacityOf n ⌝ }
 {
     if n < 1 {
         return 0;
@@ -46,7 +46,7 @@ pub fn capacity(n: u8) -> u8
 
 // The check of a bank: the first wrong field, in the order of the document.
 pub fn check(bank: &[u8]) -> Checked
-    ensures { λ r. ⌜ numbersOf r ≡ numbersOf (foundIn (now (bank .entry))) ⌝ }
+    ensures { λ result. ⌜ numbersOf result ≡ numbersOf (foundIn (now (bank .entry))) ⌝ }
 {
     body::check(bank)
 }

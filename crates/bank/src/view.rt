@@ -15,7 +15,7 @@ use field::byte;
 // Step k, counted from 1, of the steps that stand at an offset in a body of a length.
 fn step_numbered(bank: &[u8], at: usize, len: usize, k: u8) -> Step
     requires { ⌜ at < 100000 ⌝ }
-    ensures { λ r. ⌜ r ≡ numbered noStep (tab (stepAt (now (bank .entry))) 9 at (stepsIn len)) k ⌝ }
+    ensures { λ result. ⌜ result ≡ numbered noStep (tab (stepAt (now (bank .entry))) 9 at (stepsIn len)) k ⌝ }
 {
     if k < 1 {
         return no_step();
@@ -29,7 +29,7 @@ fn step_numbered(bank: &[u8], at: usize, len: usize, k: u8) -> Step
 
 // Step k of pattern p, both counted from 1, with runs and count of the pattern; all 0 for what is not there.
 pub fn place_of(bank: &[u8], p: u8, k: u8) -> Place
-    ensures { λ r. ⌜ r ≡ placeOf (now (bank .entry)) p k ⌝ }
+    ensures { λ result. ⌜ result ≡ placeOf (now (bank .entry)) p k ⌝ }
 {
     if !has_pattern(bank, p) {
         let none = no_step();

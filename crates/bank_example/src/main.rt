@@ -97,13 +97,13 @@ fn show_written(written: Written) -> usize {
 }
 
 // The first place at which two banks differ: the length of the shorter where one begins with the other.
-fn difference(a: &[u8], b: &[u8]) -> usize {
+fn difference(written: &[u8], stored: &[u8]) -> usize {
     let mut i: usize = 0;
-    while i < a.len() {
-        if b.len() <= i {
+    while i < written.len() {
+        if stored.len() <= i {
             return i;
         }
-        if a[i] != b[i] {
+        if written[i] != stored[i] {
             return i;
         }
         i += 1;
@@ -111,13 +111,13 @@ fn difference(a: &[u8], b: &[u8]) -> usize {
     i
 }
 
-fn compare(a: &[u8], b: &[u8]) {
-    let at = difference(a, b);
-    if at < a.len() {
+fn compare(written: &[u8], stored: &[u8]) {
+    let at = difference(written, stored);
+    if at < written.len() {
         show(at as u64);
         return;
     }
-    if at < b.len() {
+    if at < stored.len() {
         show(at as u64);
         return;
     }

@@ -6,8 +6,8 @@ use line::Between;
 fn print_credits(between: Between) {
     let mut out = io::large_buffer();
     let state = between.state;
-    let n = line::credits(state, &mut out);
-    terminal::show(&out, n);
+    let end = line::credits(state, &mut out);
+    terminal::show(&out, end);
 }
 
 fn main() {

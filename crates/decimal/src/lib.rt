@@ -3,30 +3,29 @@ ghost use mathlib.Core.Path.{_≡_};
 ghost use mathlib.Core.Bool.{cond};
 ghost use Prim.Native.Nat.{_+_, _≤_, _<_};
 ghost use lib.ListN.{length};
-ghost use lib.Seq.{sets};
-ghost use Rattle.decimal.specs.Text.{decimal, text, put, putOf};
+ghost use Rattle.decimal.specs.Text.{decimal, text, put, putText, putOf};
 
-// The decimal digits of a number, at most w of them. Gives the place where they end.
-fn put_digits(out: &mut [u8], at: usize, w: usize, n: u64) -> usize
-    requires { ⌜ at + w ≤ length (now out) ⌝ }
-    ensures { λ r. ⌜ (now (out .exit) ≡ sets (now (out .entry)) at (decimal w n)) × (r ≡ at + length (decimal w n)) ⌝ }
+// The decimal digits of a number, at most so many of them. Gives the place where they end.
+fn put_digits(out: &mut [u8], at: usize, most: usize, value: u64) -> usize
+    requires { ⌜ at + most ≤ length (now out) ⌝ }
+    ensures { λ r. ⌜ put (now (out .exit)) r ≡ putText (now (out .entry)) at (decimal most value) ⌝ }
 {
-    if w == 0 {
+    if most == 0 {
         return at;
     }
-    if n < 10 {
-        out[at] = b'0' + n as u8;
+    if value < 10 {
+        out[at] = b'0' + value as u8;
         return at + 1;
     }
-    let last = put_digits(out, at, w - 1, n / 10);
-    out[last] = b'0' + (n % 10) as u8;
+    let last = put_digits(out, at, most - 1, value / 10);
+    out[last] = b'0' + (value % 10) as u8;
     last + 1
 }
 
 // A number, with a minus before one that is below 0.
 fn put_number(out: &mut [u8], at: usize, x: i64) -> usize
     requires { ⌜ at + 20 ≤ length (now out) ⌝ }
-    ensures { λ r. ⌜ (now (out .exit) ≡ sets (now (out .entry)) at (text x)) × (r ≡ at + length (text x)) ⌝ }
+    ensures { λ r. ⌜ put (now (out .exit)) r ≡ putText (now (out .entry)) at (text x) ⌝ }
 {
     if x >= 0 {
         return put_digits(out, at, 19, x as u64);

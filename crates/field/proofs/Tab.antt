@@ -11,33 +11,34 @@ use lib.ListN.{length, getD, set}
 use lib.Seq.{sets}
 use Rattle.field.specs.Tab.{tab}
 
-pub length-tab : {A : Type 0} (f : ℕ → A) (w at m : ℕ) → length (tab f w at m) ≡ m
+pub length-tab : {A : Type 0} (f : ℕ → A) (width at more : ℕ) → length (tab f width at more) ≡ more
 unfolding tab
-length-tab f w at zero = refl
-length-tab f w at (suc m) = ap suc (length-tab f w (at + w) m)
+length-tab f width at zero = refl
+length-tab f width at (suc more) = ap suc (length-tab f width (at + width) more)
 
-pub getD-tab : {A : Type 0} (f : ℕ → A) (w at m j : ℕ) (d : A) → j < m → getD (tab f w at m) j d ≡ f (at + w * j)
+pub getD-tab : {A : Type 0} (f : ℕ → A) (width at more j : ℕ) (d : A) → j < more → getD (tab f width at more) j d ≡ f (at + width * j)
 unfolding tab
-getD-tab f w at zero j d h = absurd (omega arith)
-getD-tab f w at (suc m) zero d h = ap f (sym (ap (λ (x : ℕ). at + x) (mul-zero w) ∙ add-zero at))
-getD-tab f w at (suc m) (suc j) d h =
-    let e : at + w + w * j ≡ at + w * suc j = omega (arith, mul-suc w j) in
-    getD-tab f w (at + w) m j d (omega arith) ∙ ap f e
+getD-tab f width at zero j d h = absurd (omega arith)
+getD-tab f width at (suc more) zero d h = ap f (sym (ap (λ (x : ℕ). at + x) (mul-zero width) ∙ add-zero at))
+getD-tab f width at (suc more) (suc j) d h =
+    let same : at + width + width * j ≡ at + width * suc j = omega (arith, mul-suc width j) in
+    getD-tab f width (at + width) more j d (omega arith) ∙ ap f same
 
 -- nothing is left at the end
-pub tab-end : {A : Type 0} (f : ℕ → A) (w at s i : ℕ) → s ≤ i → tab f w at (s - i) ≡ []
+pub tab-end : {A : Type 0} (f : ℕ → A) (width at count i : ℕ) → count ≤ i → tab f width at (count - i) ≡ []
 unfolding tab
-tab-end f w at s i h = let e : s - i ≡ 0 = omega arith in rw e
+tab-end f width at count i h = let same : count - i ≡ 0 = omega arith in rw same
 
 -- a turn: one entry is stored at a place, and the rest of the view from one place further
-pub turn : {A : Type 0} (f : ℕ → A) (w at s i to : ℕ) (out : List A) → i < s → sets (set out to (f at)) (to + 1) (tab f w (at + w) (s - (i + 1))) ≡ sets out to (tab f w at (s - i))
+pub turn : {A : Type 0} (f : ℕ → A) (width at count i to : ℕ) (out : List A) → i < count
+    → sets (set out to (f at)) (to + 1) (tab f width (at + width) (count - (i + 1))) ≡ sets out to (tab f width at (count - i))
 unfolding tab
-turn f w at s i to out h = let e : s - i ≡ suc (s - (i + 1)) = omega arith in rw (e, add-one)
+turn f width at count i to out h = let same : count - i ≡ suc (count - (i + 1)) = omega arith in rw (same, add-one)
 
 -- the same, by the number of turns
-pub fill-turn : {A : Type 0} (f : ℕ → A) (w at s i base : ℕ) (out : List A) → i < s
-    → sets (set out (base + i) (f (at + w * i))) (base + (i + 1)) (tab f w (at + w * (i + 1)) (s - (i + 1))) ≡ sets out (base + i) (tab f w (at + w * i) (s - i))
-fill-turn f w at s i base out h =
-    let g : at + w * (i + 1) ≡ at + w * i + w = rw add-one (omega (arith, mul-suc w i)) in
-    let k : base + (i + 1) ≡ base + i + 1 = omega arith in
-    rw (g, k) (turn f w (at + w * i) s i (base + i) out h)
+pub fill-turn : {A : Type 0} (f : ℕ → A) (width at count i base : ℕ) (out : List A) → i < count
+    → sets (set out (base + i) (f (at + width * i))) (base + (i + 1)) (tab f width (at + width * (i + 1)) (count - (i + 1))) ≡ sets out (base + i) (tab f width (at + width * i) (count - i))
+fill-turn f width at count i base out h =
+    let g : at + width * (i + 1) ≡ at + width * i + width = rw add-one (omega (arith, mul-suc width i)) in
+    let next : base + (i + 1) ≡ base + i + 1 = omega arith in
+    rw (g, next) (turn f width (at + width * i) count i (base + i) out h)

@@ -2,9 +2,9 @@
 ghost use mathlib.Core.Path.{_≡_};
 ghost use Prim.Native.Nat.{_<_};
 ghost use Rattle.field.specs.Field.{field};
-ghost use Rattle.bank.specs.View.{stepAt};
 ghost use Rattle.field.specs.Tab.{tab};
-ghost use Rattle.host.specs.Calls.{patternsFrom};
+ghost use Rattle.bank.specs.View.{stepAt};
+ghost use Rattle.calls.specs.Calls.{patternsFrom};
 use bank::Step;
 use bank::step_at;
 use field::byte;
@@ -15,13 +15,13 @@ fn each_second(pairs: &[u8], at: usize) -> [u8; 15]
     requires { ⌜ at < 1000 ⌝ }
     ensures { λ r. ⌜ r ≡ tab (field 1 (now (pairs .entry))) 2 at 15 ⌝ }
 {
-    let mut xs = [0u8; 15];
-    let mut i: usize = 0;
-    while i < 15 {
-        xs[i] = byte(pairs, at + 2 * i);
-        i += 1;
+    let mut values = [0u8; 15];
+    let mut index: usize = 0;
+    while index < 15 {
+        values[index] = byte(pairs, at + 2 * index);
+        index += 1;
     }
-    xs
+    values
 }
 
 // The 99 steps.
@@ -29,14 +29,14 @@ fn all_steps(steps: &[u8]) -> [Step; 99]
     ensures { λ r. ⌜ r ≡ tab (stepAt (now (steps .entry))) 9 0 99 ⌝ }
 {
     let first = step_at(steps, 0);
-    let mut out = [first; 99];
-    let mut i: usize = 0;
-    while i < 99 {
-        let x = step_at(steps, 9 * i);
-        out[i] = x;
-        i += 1;
+    let mut all = [first; 99];
+    let mut index: usize = 0;
+    while index < 99 {
+        let step = step_at(steps, 9 * index);
+        all[index] = step;
+        index += 1;
     }
-    out
+    all
 }
 
 // The patterns.

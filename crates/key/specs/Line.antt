@@ -8,9 +8,9 @@ use lib.IntN.{pos, negℤ}
 use lib.ListN.{length, getD, drop}
 use Rattle.setting.specs.Range.{both, between}
 use Rattle.measure.specs.declared.Reading.{Reading}
-use Rattle.program.specs.declared.Command.{Command}
-use Rattle.controller.specs.declared.Event.{Event}
-use Rattle.key.specs.declared.Asked.{Asked}
+use Rattle.position.specs.declared.Command.{Command}
+use Rattle.plain.specs.declared.Event.{Event}
+use Rattle.plain.specs.declared.Asked.{Asked}
 use Rattle.key.specs.declared.Number.{Number}
 
 -- ---- "a number, q too, is an optional minus and one to five digits"
@@ -21,8 +21,8 @@ areDigits (c ∷ cs) = both (between 48 c 57) (areDigits cs)
 
 -- the number that digits stand for, after those that came before
 unfoldable pub readOn : ℕ → List ℕ → ℕ
-readOn n [] = n
-readOn n (c ∷ cs) = readOn (10 * n + (c - 48)) cs
+readOn before [] = before
+readOn before (c ∷ cs) = readOn (10 * before + (c - 48)) cs
 
 -- one to five digits
 unfoldable pub unsigned : List ℕ → Number

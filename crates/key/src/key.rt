@@ -2,14 +2,14 @@
 ghost use mathlib.Core.Path.{_≡_};
 ghost use mathlib.Core.Bool.{cond};
 ghost use Rattle.key.specs.Line.{keyOf, isOnly, tickOf, returnOf, valued as valuedOf};
-ghost use Rattle.controller.specs.declared.Event.{Event};
-use crate::Asked;
+ghost use Rattle.plain.specs.declared.Event.{Event};
 use crate::Number;
 use crate::value::number;
-use controller::Event;
 use field::byte;
 use measure::Reading;
-use program::Command;
+use plain::Asked;
+use plain::Event;
+use position::Command;
 
 // A key by itself.
 pub fn alone(c: u8) -> Asked
@@ -49,13 +49,13 @@ fn select(cs: &[u8]) -> Asked
 }
 
 // A tick, or a return.
-fn event(r: Reading, returns: bool) -> Event
-    ensures { λ e. ⌜ e ≡ cond returns (Event.Return r) (Event.Tick r) ⌝ }
+fn event(reading: Reading, returns: bool) -> Event
+    ensures { λ r. ⌜ r ≡ cond returns (Event.Return reading) (Event.Tick reading) ⌝ }
 {
     if returns {
-        return Event::Return(r);
+        return Event::Return(reading);
     }
-    Event::Tick(r)
+    Event::Tick(reading)
 }
 
 // T and R: H is over, L under.

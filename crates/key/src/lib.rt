@@ -1,8 +1,8 @@
 // One line of the program `sheet`: what it asks for.
 ghost use mathlib.Core.Path.{_≡_};
 ghost use Rattle.key.specs.Line.{askedBy};
-use controller::Event;
 use field::byte;
+use plain::Asked;
 
 mod key;
 mod value;
@@ -11,12 +11,6 @@ mod value;
 pub enum Number {
     NoForm,
     Value(i32),
-}
-
-// What a line asks for: an event, or nothing, for a line of any other form.
-pub enum Asked {
-    NoForm,
-    Of(Event),
 }
 
 // What a line asks for. The line is its bytes, without the newline that ends it.

@@ -15,7 +15,7 @@ fn digits(cs: &[u8], minus: bool) -> Number
     if 5 < cs.len() {
         return Number::NoForm;
     }
-    let mut n: u32 = 0;
+    let mut value: u32 = 0;
     let mut i: usize = 0;
     while i < cs.len() {
         let c = cs[i];
@@ -25,13 +25,13 @@ fn digits(cs: &[u8], minus: bool) -> Number
         if b'9' < c {
             return Number::NoForm;
         }
-        n = 10 * n + (c - b'0') as u32;
+        value = 10 * value + (c - b'0') as u32;
         i += 1;
     }
     if minus {
-        return Number::Value(-(n as i32));
+        return Number::Value(-(value as i32));
     }
-    Number::Value(n as i32)
+    Number::Value(value as i32)
 }
 
 // An optional minus and one to five digits.

@@ -4,195 +4,219 @@ use Prim.Native.Nat.{ℕ, zero, suc, _+_, _*_, _≤_}
 use mathlib.Core.Bool.{Bool, true, false, cond}
 use mathlib.Core.List.{List, [], _∷_, _++_, append-assoc, append-nil, flatten, map}
 use mathlib.Core.Path.{_≡_, refl, sym, ap, _∙_}
+use native.Mathlib.Nat.{zero-add}
 use native.Mathlib.Omega.{arith}
 use borrow.Author.Tests.{le-leb, ne-eqb}
 use lib.Dec.{eqb}
 use lib.IntN.{pos}
 use lib.ListN.{length, take, drop, replicate, length-map}
 use lib.Seq.{sets, sets-eq, take-append-seam}
+use Rattle.field.specs.Row.{total}
 use Rattle.setting.specs.Found.{numbersOf as bankNumbers, isAccepted, unless}
 use Rattle.bank.specs.Check.{foundIn}
-use Rattle.controller.specs.declared.State.{State}
+use Rattle.plain.specs.Record.{creditWidths, widthsOf}
+use Rattle.plain.specs.Setup.{Setup}
+use Rattle.plain.specs.Event.{State}
 use Rattle.decimal.specs.Text.{lineOf}
 use Rattle.key.proofs.Long.{long-lines}
-use Rattle.line.specs.declared.Between.{Between}
-use Rattle.line.specs.Text.{refusal, Answered, answered, answeredTo}
-use Rattle.line.specs.Sheet.{lastLine, linesFrom, nextLine, answersTo, allOf, sheetText, creditLines, creditsText}
+use Rattle.line.specs.declared.Ran.{Ran}
+use Rattle.line.specs.Text.{refusal, Answered, answeredTo}
+use Rattle.line.specs.Sheet.{lastLine, linesFrom, nextLine, answersTo, made, allOf, sheetText, creditLines, creditsText}
 use Rattle.line.specs.Part.{Sheet, ended, byteOf, partOf, endOf, noText, printed, leftBy, begun, After, after, found, runOf, finishOf, startOf, creditsOf}
 use Rattle.line.proofs.Laws.{length-line, length-refusal, length-credits, part-append, length-ended, length-byte}
 
 -- ---- what a call prints is the front of the buffer that it leaves
 
 -- a text that was put at the front of a buffer
-stands : (t out : List ℕ) → length t ≤ length out → take (length t) (sets out 0 t) ≡ t
-stands t out h = ap (take (length t)) (sets-eq t out 0 (omega arith)) ∙ take-append-seam t (drop (0 + length t) out)
+stands : (text out : List ℕ) → length text ≤ length out → take (length text) (sets out 0 text) ≡ text
+stands text out h = ap (take (length text)) (sets-eq text out 0 (omega arith)) ∙ take-append-seam text (drop (0 + length text) out)
 
-length-part : (b : List ℕ) (x : Sheet) (cs : List ℕ) → length (partOf b x cs .text) ≤ length (x .text) + 168 * length cs
-unfolding partOf
-length-part b x [] = omega arith
-length-part b x (c ∷ cs) = omega (arith, length-byte b x c, length-part b (byteOf b x c) cs)
+module _ (setup : Setup) where
+  length-part : (sheet : Sheet) (cs : List ℕ) → length (partOf setup sheet cs .text) ≤ length (sheet .text) + 168 * length cs
+  unfolding partOf
+  length-part sheet [] = omega arith
+  length-part sheet (c ∷ cs) = omega (arith, length-byte setup sheet c, length-part (byteOf setup sheet c) cs)
 
-length-end : (b : List ℕ) (x : Sheet) → length (endOf b x .text) ≤ length (x .text) + 168
-unfolding endOf ended
-length-end b x = go (eqb (length (x .line)) 0) refl
-  where
-    go : (e : Bool) → eqb (length (x .line)) 0 ≡ e → length (endOf b x .text) ≤ length (x .text) + 168
-    go true h = rw h (omega arith)
-    go false h = rw h (length-ended b x)
+  length-end : (sheet : Sheet) → length (endOf setup sheet .text) ≤ length (sheet .text) + 168
+  unfolding endOf ended
+  length-end sheet = go (eqb (length (sheet .line)) 0) refl
+    where
+      go : (t : Bool) → eqb (length (sheet .line)) 0 ≡ t → length (endOf setup sheet .text) ≤ length (sheet .text) + 168
+      go true h = rw h (omega arith)
+      go false h = rw h (length-ended setup sheet)
 
--- for a part, and for the end
-pub run-prints : (b : List ℕ) (x : Sheet) (cs out : List ℕ) → 168 * length cs ≤ length out → let a = runOf b (noText x) cs out in take (a .end) (a .out) ≡ partOf b (noText x) cs .text
-unfolding runOf
-run-prints b x cs out h =
-    rw (le-leb (168 * length cs) (length out) h) (stands (partOf b (noText x) cs .text) out (omega (arith, length-part b (noText x) cs)))
+  -- for a part, and for the end
+  pub run-prints : (sheet : Sheet) (cs out : List ℕ) → 168 * length cs ≤ length out
+      → let left = runOf setup (noText sheet) cs out in take (left .end) (left .out) ≡ partOf setup (noText sheet) cs .text
+  unfolding runOf
+  run-prints sheet cs out h =
+      rw (le-leb (168 * length cs) (length out) h) (stands (partOf setup (noText sheet) cs .text) out (omega (arith, length-part (noText sheet) cs)))
 
-pub finish-prints : (b : List ℕ) (x : Sheet) (out : List ℕ) → 168 ≤ length out → let a = finishOf b (noText x) out in take (a .end) (a .out) ≡ endOf b (noText x) .text
-unfolding finishOf
-finish-prints b x out h = rw (le-leb 168 (length out) h) (stands (endOf b (noText x) .text) out (omega (arith, length-end b (noText x))))
+  pub finish-prints : (sheet : Sheet) (out : List ℕ) → 168 ≤ length out
+      → let left = finishOf setup (noText sheet) out in take (left .end) (left .out) ≡ endOf setup (noText sheet) .text
+  unfolding finishOf
+  finish-prints sheet out h =
+      rw (le-leb 168 (length out) h) (stands (endOf setup (noText sheet) .text) out (omega (arith, length-end (noText sheet))))
 
--- for the beginning: the refusal's text of a refused bank, else nothing
-pub start-prints : (b d out : List ℕ) → 168 ≤ length out → let a = startOf b d out in take (a .end) (a .out) ≡ unless (foundIn b) refusal []
-unfolding startOf refusal
-start-prints b d out h = rw (le-leb 168 (length out) h) (go (isAccepted (foundIn b)))
-  where
-    go : (t : Bool) → let text = cond t [] (refusal (foundIn b)) in take (length text) (sets out 0 text) ≡ text
-    go true = refl
-    go false =
-        let ns = bankNumbers (foundIn b) in
-        stands (lineOf (map pos ns)) out (omega (arith, length-line (map pos ns), length-map ns pos, length-refusal (foundIn b)))
+  -- for the beginning: the refusal's text of a refused bank, else nothing
+  pub start-prints : (store out : List ℕ) → 168 ≤ length out
+      → let left = startOf setup store out in take (left .end) (left .out) ≡ unless (foundIn (setup .bank)) refusal []
+  unfolding startOf refusal
+  start-prints store out h = rw (le-leb 168 (length out) h) (go (isAccepted (foundIn (setup .bank))))
+    where
+      go : (t : Bool) → let text = cond t [] (refusal (foundIn (setup .bank))) in take (length text) (sets out 0 text) ≡ text
+      go true = refl
+      go false =
+          let numbers = bankNumbers (foundIn (setup .bank)) in
+          stands (lineOf (map pos numbers)) out
+          (omega (arith, length-line (map pos numbers), length-map numbers pos, length-refusal (foundIn (setup .bank))))
 
 -- for the credits of 99 steps
-pub credits-prints : (s : State) (out : List ℕ) → length (s .credits) ≡ 99 → 4158 ≤ length out → let a = creditsOf s out in take (a .end) (a .out) ≡ creditLines 1 (s .credits)
+pub credits-prints : (credits out : List ℕ) → length credits ≡ 99 → 4158 ≤ length out
+    → let left = creditsOf credits out in take (left .end) (left .bytes) ≡ creditLines 1 credits
 unfolding creditsOf
-credits-prints s out l h = rw (le-leb 4158 (length out) h) (stands (creditLines 1 (s .credits)) out (omega (arith, length-credits 1 (s .credits))))
+credits-prints credits out l h =
+    rw (le-leb 4158 (length out) h, zero-add (length (creditLines 1 credits)))
+    (stands (creditLines 1 credits) out (omega (arith, length-credits 1 credits)))
 
 -- ---- text that was there before changes nothing else
 
 abbrev behind : List ℕ → Sheet → Sheet
-behind t x = record { state = x .state; store = x .store; line = x .line; text = t ++ x .text }
-
-line-behind : (b t : List ℕ) (x : Sheet) → ended b (behind t x) ≡ behind t (ended b x)
-unfolding ended
-line-behind b t x =
-    let a = answeredTo b (x .store) (x .state) (x .line) in
-    λ i. record { state = a .state; store = a .store; line = []; text = append-assoc t (x .text) (a .printed) i }
-
-byte-behind : (b t : List ℕ) (x : Sheet) (c : ℕ) → byteOf b (behind t x) c ≡ behind t (byteOf b x c)
-unfolding byteOf
-byte-behind b t x c = go (eqb c 10) refl
-  where
-    go : (e : Bool) → eqb c 10 ≡ e → byteOf b (behind t x) c ≡ behind t (byteOf b x c)
-    go true h = rw h (line-behind b t x)
-    go false h = rw h
-
-part-behind : (b t : List ℕ) (x : Sheet) (cs : List ℕ) → partOf b (behind t x) cs ≡ behind t (partOf b x cs)
-unfolding partOf
-part-behind b t x [] = refl
-part-behind b t x (c ∷ cs) = ap (λ (y : Sheet). partOf b y cs) (byte-behind b t x c) ∙ part-behind b t (byteOf b x c) cs
-
-end-behind : (b t : List ℕ) (x : Sheet) → endOf b (behind t x) ≡ behind t (endOf b x)
-unfolding endOf
-end-behind b t x = go (eqb (length (x .line)) 0) refl
-  where
-    go : (e : Bool) → eqb (length (x .line)) 0 ≡ e → endOf b (behind t x) ≡ behind t (endOf b x)
-    go true h = rw h
-    go false h = rw h (line-behind b t x)
+behind text sheet = record { state = sheet .state; store = sheet .store; line = sheet .line; text = text ++ sheet .text }
 
 -- a sheet is its text, and itself without it
-with-text : (x : Sheet) → behind (x .text) (noText x) ≡ x
-with-text x = λ i. record { state = x .state; store = x .store; line = x .line; text = append-nil (x .text) i }
+with-text : (sheet : Sheet) → behind (sheet .text) (noText sheet) ≡ sheet
+with-text sheet = λ i. record { state = sheet .state; store = sheet .store; line = sheet .line; text = append-nil (sheet .text) i }
 
--- so a part, and the end, of a sheet with text are those of the sheet without it, behind the text
-part-text : (b : List ℕ) (x : Sheet) (cs : List ℕ) → partOf b x cs ≡ behind (x .text) (partOf b (noText x) cs)
-part-text b x cs = ap (λ (y : Sheet). partOf b y cs) (sym (with-text x)) ∙ part-behind b (x .text) (noText x) cs
+module _ (setup : Setup) where
+  line-behind : (text : List ℕ) (sheet : Sheet) → ended setup (behind text sheet) ≡ behind text (ended setup sheet)
+  unfolding ended
+  line-behind text sheet =
+      let answer = answeredTo setup (sheet .store) (sheet .state) (sheet .line) in
+      λ i. record { state = answer .state; store = answer .store; line = []; text = append-assoc text (sheet .text) (answer .printed) i }
 
-end-text : (b : List ℕ) (x : Sheet) → endOf b x ≡ behind (x .text) (endOf b (noText x))
-end-text b x = ap (endOf b) (sym (with-text x)) ∙ end-behind b (x .text) (noText x)
+  byte-behind : (text : List ℕ) (sheet : Sheet) (c : ℕ) → byteOf setup (behind text sheet) c ≡ behind text (byteOf setup sheet c)
+  unfolding byteOf
+  byte-behind text sheet c = go (eqb c 10) refl
+    where
+      go : (t : Bool) → eqb c 10 ≡ t → byteOf setup (behind text sheet) c ≡ behind text (byteOf setup sheet c)
+      go true h = rw h (line-behind text sheet)
+      go false h = rw h
 
-pub part-bare : (b : List ℕ) (x : Sheet) (cs : List ℕ) → noText (partOf b (noText x) cs) ≡ noText (partOf b x cs)
-part-bare b x cs = sym (ap (λ (y : Sheet). noText y) (part-text b x cs))
+  part-behind : (text : List ℕ) (sheet : Sheet) (cs : List ℕ) → partOf setup (behind text sheet) cs ≡ behind text (partOf setup sheet cs)
+  unfolding partOf
+  part-behind text sheet [] = refl
+  part-behind text sheet (c ∷ cs) =
+      ap (λ (x : Sheet). partOf setup x cs) (byte-behind text sheet c) ∙ part-behind text (byteOf setup sheet c) cs
 
-pub end-bare : (b : List ℕ) (x : Sheet) → noText (endOf b (noText x)) ≡ noText (endOf b x)
-end-bare b x = sym (ap (λ (y : Sheet). noText y) (end-text b x))
+  end-behind : (text : List ℕ) (sheet : Sheet) → endOf setup (behind text sheet) ≡ behind text (endOf setup sheet)
+  unfolding endOf
+  end-behind text sheet = go (eqb (length (sheet .line)) 0) refl
+    where
+      go : (t : Bool) → eqb (length (sheet .line)) 0 ≡ t → endOf setup (behind text sheet) ≡ behind text (endOf setup sheet)
+      go true h = rw h
+      go false h = rw h (line-behind text sheet)
 
--- ---- the parts of an input are the whole
+  -- so a part, and the end, of a sheet with text are those of the sheet without it, behind the text
+  part-text : (sheet : Sheet) (cs : List ℕ) → partOf setup sheet cs ≡ behind (sheet .text) (partOf setup (noText sheet) cs)
+  part-text sheet cs = ap (λ (x : Sheet). partOf setup x cs) (sym (with-text sheet)) ∙ part-behind (sheet .text) (noText sheet) cs
 
-parts-whole : (b : List ℕ) (x : Sheet) (ps : List (List ℕ)) → let l = leftBy b (noText x) ps in
-    _≡_ {A = Sheet} (record { state = l .state; store = l .store; line = l .line; text = x .text ++ printed b (noText x) ps }) (endOf b (partOf b x (flatten ps)))
-unfolding leftBy printed flatten partOf
-parts-whole b x [] = sym (end-text b x)
-parts-whole b x (p ∷ ps) =
-    let q = partOf b (noText x) p in
-    let l = leftBy b (noText q) ps in
-    (λ i. record { state = l .state; store = l .store; line = l .line; text = sym (append-assoc (x .text) (q .text) (printed b (noText q) ps)) i })
-    ∙ parts-whole b (behind (x .text) q) ps
-    ∙ ap (λ (y : Sheet). endOf b (partOf b y (flatten ps))) (sym (part-text b x p))
-    ∙ ap (endOf b) (sym (part-append b x p (flatten ps)))
+  end-text : (sheet : Sheet) → endOf setup sheet ≡ behind (sheet .text) (endOf setup (noText sheet))
+  end-text sheet = ap (endOf setup) (sym (with-text sheet)) ∙ end-behind (sheet .text) (noText sheet)
+
+  pub part-bare : (sheet : Sheet) (cs : List ℕ) → noText (partOf setup (noText sheet) cs) ≡ noText (partOf setup sheet cs)
+  part-bare sheet cs = sym (ap (λ (x : Sheet). noText x) (part-text sheet cs))
+
+  pub end-bare : (sheet : Sheet) → noText (endOf setup (noText sheet)) ≡ noText (endOf setup sheet)
+  end-bare sheet = sym (ap (λ (x : Sheet). noText x) (end-text sheet))
+
+  -- ---- the parts of an input are the whole
+
+  parts-whole : (sheet : Sheet) (parts : List (List ℕ)) → let left = leftBy setup (noText sheet) parts in
+      let text = sheet .text ++ printed setup (noText sheet) parts in
+      _≡_ {A = Sheet} (record { state = left .state; store = left .store; line = left .line; text = text }) (endOf setup (partOf setup sheet (flatten parts)))
+  unfolding leftBy printed flatten partOf
+  parts-whole sheet [] = sym (end-text sheet)
+  parts-whole sheet (part ∷ parts) =
+      let next = partOf setup (noText sheet) part in
+      let left = leftBy setup (noText next) parts in
+      let texts = append-assoc (sheet .text) (next .text) (printed setup (noText next) parts) in
+      (λ i. record { state = left .state; store = left .store; line = left .line; text = sym texts i })
+      ∙ parts-whole (behind (sheet .text) next) parts
+      ∙ ap (λ (x : Sheet). endOf setup (partOf setup x (flatten parts))) (sym (part-text sheet part))
+      ∙ ap (endOf setup) (sym (part-append setup sheet part (flatten parts)))
 
 -- ---- a sheet within its input, and its lines
 
 abbrev pub within : Answered → List ℕ → Sheet
-within a line = record { state = a .state; store = a .store; line = line; text = a .printed }
+within answer line = record { state = answer .state; store = answer .store; line = line; text = answer .printed }
 
--- the first 16 bytes of a line that grows are those of the line
-take-more : (n : ℕ) (line : List ℕ) (c : ℕ) → take n (take n line ++ (c ∷ [])) ≡ take n (line ++ (c ∷ []))
+-- the first bytes of a line that grows are those of the line
+take-more : (many : ℕ) (line : List ℕ) (c : ℕ) → take many (take many line ++ (c ∷ [])) ≡ take many (line ++ (c ∷ []))
 take-more zero line c = refl
-take-more (suc n) [] c = refl
-take-more (suc n) (x ∷ xs) c = ap (λ (l : List ℕ). x ∷ l) (take-more n xs c)
+take-more (suc many) [] c = refl
+take-more (suc many) (x ∷ xs) c = ap (λ (line : List ℕ). x ∷ line) (take-more many xs c)
 
--- a line of which the first 16 bytes are kept is answered as a whole line
-next-line : (b : List ℕ) (a : Answered) (line : List ℕ) → ended b (within a (take 16 line)) ≡ within (nextLine b a line) []
-unfolding ended nextLine answeredTo
-next-line b a line = rw (← long-lines line)
+module _ (setup : Setup) where
+  -- a line of which the first 16 bytes are kept is answered as a whole line
+  next-line : (before : Answered) (line : List ℕ) → ended setup (within before (take 16 line)) ≡ within (nextLine setup before line) []
+  unfolding ended nextLine answeredTo
+  next-line before line = rw (← long-lines line)
 
-last-line : (b : List ℕ) (a : Answered) (line : List ℕ) → endOf b (within a (take 16 line)) ≡ within (answersTo b a (lastLine line)) []
-unfolding endOf answersTo
-last-line b a [] = refl
-last-line b a (c ∷ cs) = rw (ne-eqb (length (take 16 (c ∷ cs))) 0 (λ e. omega arith)) (next-line b a (c ∷ cs))
+  last-line : (before : Answered) (line : List ℕ) → endOf setup (within before (take 16 line)) ≡ within (answersTo setup before (lastLine line)) []
+  unfolding endOf answersTo
+  last-line before [] = refl
+  last-line before (c ∷ cs) = rw (ne-eqb (length (take 16 (c ∷ cs))) 0 (λ h. omega arith)) (next-line before (c ∷ cs))
 
-all-lines : (b : List ℕ) (a : Answered) (line cs : List ℕ) → endOf b (partOf b (within a (take 16 line)) cs) ≡ within (answersTo b a (linesFrom line cs)) []
-unfolding partOf byteOf linesFrom answersTo
-all-lines b a line [] = last-line b a line
-all-lines b a line (c ∷ cs) = go (λ a line. all-lines b a line cs) (eqb c 10) refl
-  where
-    go : ((a : Answered) (line : List ℕ) → endOf b (partOf b (within a (take 16 line)) cs) ≡ within (answersTo b a (linesFrom line cs)) [])
-        → (t : Bool) → eqb c 10 ≡ t → endOf b (partOf b (within a (take 16 line)) (c ∷ cs)) ≡ within (answersTo b a (linesFrom line (c ∷ cs))) []
-    go rest true h = rw h (ap (λ (x : Sheet). endOf b (partOf b x cs)) (next-line b a line) ∙ rest (nextLine b a line) [])
-    go rest false h = rw h (ap (λ (l : List ℕ). endOf b (partOf b (within a l) cs)) (take-more 16 line c) ∙ rest a (line ++ (c ∷ [])))
+  abbrev All : List ℕ → Answered → List ℕ → Type 0
+  All cs before line = endOf setup (partOf setup (within before (take 16 line)) cs) ≡ within (answersTo setup before (linesFrom line cs)) []
 
--- ---- the programs, for every bank and every cutting of an input into parts
+  all-lines : (before : Answered) (line cs : List ℕ) → All cs before line
+  unfolding partOf byteOf linesFrom answersTo
+  all-lines before line [] = last-line before line
+  all-lines before line (c ∷ cs) = go (λ before line. all-lines before line cs) (eqb c 10) refl
+    where
+      go : ((before : Answered) (line : List ℕ) → All cs before line) → (t : Bool) → eqb c 10 ≡ t → All (c ∷ cs) before line
+      go rest true h = rw h (ap (λ (x : Sheet). endOf setup (partOf setup x cs)) (next-line before line) ∙ rest (nextLine setup before line) [])
+      go rest false h =
+          rw h (ap (λ (kept : List ℕ). endOf setup (partOf setup (within before kept) cs)) (take-more 16 line c) ∙ rest before (line ++ (c ∷ [])))
 
--- the beginning leaves a made controller
-pub start-leaves : (b out : List ℕ) (r : Between) {d out′ : List ℕ} {end : ℕ} → after r d out′ end ≡ startOf b (replicate 411 0) out → found r d ≡ begun b
-unfolding startOf begun
-start-leaves b out r e = ap (λ (a : After). record { state = a .state; store = a .store; line = a .line; text = [] }) e
+  -- ---- the programs, for every bank and every cutting of an input into parts
 
--- an input that comes in one part
-pub all-input : (b input : List ℕ) → endOf b (partOf b (begun b) input) ≡ within (allOf b input) []
-unfolding begun allOf
-all-input b input = all-lines b (answered (begun b .state) (begun b .store) []) [] input
+  -- the beginning, over a record of zeros, leaves a made controller
+  pub start-leaves : (out : List ℕ) (ran : Ran) {store out′ : List ℕ} → after ran store out′ ≡ startOf setup (replicate 411 0) out
+      → found (ran .between) store ≡ begun setup
+  unfolding startOf begun made creditWidths widthsOf total
+  start-leaves out ran h = ap (λ (left : After). record { state = left .state; store = left .store; line = left .line; text = [] }) h
 
-module _ (b : List ℕ) (parts : List (List ℕ)) where
-  whole : let l = leftBy b (begun b) parts in
-      _≡_ {A = Sheet} (record { state = l .state; store = l .store; line = l .line; text = printed b (begun b) parts }) (within (allOf b (flatten parts)) [])
+  -- an input that comes in one part
+  pub all-input : (input : List ℕ) → endOf setup (partOf setup (begun setup) input) ≡ within (allOf setup input) []
+  unfolding begun made allOf
+  all-input input = all-lines (made setup) [] input
+
+module _ (setup : Setup) (parts : List (List ℕ)) where
+  whole : let left = leftBy setup (begun setup) parts in
+      let text = printed setup (begun setup) parts in
+      _≡_ {A = Sheet} (record { state = left .state; store = left .store; line = left .line; text = text }) (within (allOf setup (flatten parts)) [])
   unfolding begun
-  whole = parts-whole b (begun b) parts ∙ all-input b (flatten parts)
+  whole = parts-whole setup (begun setup) parts ∙ all-input setup (flatten parts)
 
-  pub whole-text : printed b (begun b) parts ≡ allOf b (flatten parts) .printed
+  pub whole-text : printed setup (begun setup) parts ≡ allOf setup (flatten parts) .printed
   whole-text = ap (λ (x : Sheet). x .text) whole
 
-  pub whole-state : leftBy b (begun b) parts .state ≡ allOf b (flatten parts) .state
+  pub whole-state : leftBy setup (begun setup) parts .state ≡ allOf setup (flatten parts) .state
   whole-state = ap (λ (x : Sheet). x .state) whole
 
-  pub whole-record : leftBy b (begun b) parts .store ≡ allOf b (flatten parts) .store
+  pub whole-record : leftBy setup (begun setup) parts .store ≡ allOf setup (flatten parts) .store
   whole-record = ap (λ (x : Sheet). x .store) whole
 
   -- `sheet`: the refusal's text of a refused bank, and of an accepted one what the calls print
-  pub sheet-text : sheetText b (flatten parts) ≡ unless (foundIn b) refusal (printed b (begun b) parts)
+  pub sheet-text : sheetText setup (flatten parts) ≡ unless (foundIn (setup .bank)) refusal (printed setup (begun setup) parts)
   unfolding sheetText
-  sheet-text = ap (λ (t : List ℕ). unless (foundIn b) refusal t) (sym whole-text)
+  sheet-text = ap (λ (text : List ℕ). unless (foundIn (setup .bank)) refusal text) (sym whole-text)
 
   -- `credits`: the refusal's text of a refused bank, and of an accepted one the credits of the state that is left
-  pub credits-text : creditsText b (flatten parts) ≡ unless (foundIn b) refusal (creditLines 1 (leftBy b (begun b) parts .state .credits))
+  pub credits-text : creditsText setup (flatten parts)
+      ≡ unless (foundIn (setup .bank)) refusal (creditLines 1 (leftBy setup (begun setup) parts .state .credits))
   unfolding creditsText
-  credits-text = ap (λ (s : State). unless (foundIn b) refusal (creditLines 1 (s .credits))) (sym whole-state)
+  credits-text = ap (λ (state : State). unless (foundIn (setup .bank)) refusal (creditLines 1 (state .credits))) (sym whole-state)

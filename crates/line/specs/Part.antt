@@ -1,17 +1,23 @@
 -- An input that comes in parts, and what a call leaves for each: what the functions of `line` promise.
 -- Assumes nothing.
 use Prim.Native.Nat.{ℕ, _+_, _*_}
-use mathlib.Core.Bool.{cond}
+use mathlib.Core.Path.{_≡_}
+use mathlib.Core.Bool.{Bool, cond}
 use mathlib.Core.List.{List, [], _∷_, _++_}
 use lib.Dec.{eqb, leb}
-use lib.ListN.{length, take, replicate}
+use lib.ListN.{length, take}
 use lib.Seq.{sets}
-use Rattle.setting.specs.Found.{unless}
+use Rattle.setting.specs.Found.{isAccepted, unless}
+use Rattle.setting.specs.declared.Checked.{Checked}
 use Rattle.bank.specs.Check.{foundIn}
-use Rattle.controller.specs.declared.State.{State}
-use Rattle.controller.specs.Event.{makeOf}
+use Rattle.plain.specs.Setup.{Setup}
+use Rattle.plain.specs.Event.{State, makeOutcome}
+use Rattle.controller.specs.Holds.{stateOf}
+use Rattle.decimal.specs.Text.{Put, put, putText}
 use Rattle.line.specs.declared.Between.{Between}
+use Rattle.line.specs.declared.Ran.{Ran}
 use Rattle.line.specs.Text.{refusal, answeredTo}
+use Rattle.line.specs.Sheet as whole
 use Rattle.line.specs.Sheet.{creditLines}
 
 -- a sheet within its input: state, record, the line so far and the text so far
@@ -22,45 +28,45 @@ pub record Sheet : Type 0 where
   pub text : List ℕ
 
 -- the line so far is answered
-unfoldable pub ended : List ℕ → Sheet → Sheet
-ended b x =
-    let a = answeredTo b (x .store) (x .state) (x .line) in
-    record { state = a .state; store = a .store; line = []; text = x .text ++ a .printed }
+unfoldable pub ended : Setup → Sheet → Sheet
+ended setup sheet =
+    let answer = answeredTo setup (sheet .store) (sheet .state) (sheet .line) in
+    record { state = answer .state; store = answer .store; line = []; text = sheet .text ++ answer .printed }
 
 -- a byte of the input: the newline (10) ends the line; of any other line the first 16 bytes are kept, which ask for what the whole line asks for
-unfoldable pub byteOf : List ℕ → Sheet → ℕ → Sheet
-byteOf b x c =
-    cond (eqb c 10) (ended b x)
-    (record { state = x .state; store = x .store; line = take 16 (x .line ++ (c ∷ [])); text = x .text })
+unfoldable pub byteOf : Setup → Sheet → ℕ → Sheet
+byteOf setup sheet c =
+    cond (eqb c 10) (ended setup sheet)
+    (record { state = sheet .state; store = sheet .store; line = take 16 (sheet .line ++ (c ∷ [])); text = sheet .text })
 
 -- a part of the input
-unfoldable pub partOf : List ℕ → Sheet → List ℕ → Sheet
-partOf b x [] = x
-partOf b x (c ∷ cs) = partOf b (byteOf b x c) cs
+unfoldable pub partOf : Setup → Sheet → List ℕ → Sheet
+partOf setup sheet [] = sheet
+partOf setup sheet (c ∷ cs) = partOf setup (byteOf setup sheet c) cs
 
 -- the end of the input: a last line without a newline counts if it is not empty
-unfoldable pub endOf : List ℕ → Sheet → Sheet
-endOf b x = cond (eqb (length (x .line)) 0) x (ended b x)
+unfoldable pub endOf : Setup → Sheet → Sheet
+endOf setup sheet = cond (eqb (length (sheet .line)) 0) sheet (ended setup sheet)
 
 -- ---- what the calls print and leave, for an input that comes in parts
 
 -- a sheet whose text was written
 abbrev pub noText : Sheet → Sheet
-noText x = record { state = x .state; store = x .store; line = x .line; text = [] }
+noText sheet = record { state = sheet .state; store = sheet .store; line = sheet .line; text = [] }
 
 -- the text of all calls, one behind the other: a call for each part, and one for the end
-unfoldable pub printed : List ℕ → Sheet → List (List ℕ) → List ℕ
-printed b x [] = endOf b x .text
-printed b x (p ∷ ps) = partOf b x p .text ++ printed b (noText (partOf b x p)) ps
+unfoldable pub printed : Setup → Sheet → List (List ℕ) → List ℕ
+printed setup sheet [] = endOf setup sheet .text
+printed setup sheet (part ∷ parts) = partOf setup sheet part .text ++ printed setup (noText (partOf setup sheet part)) parts
 
 -- the sheet that the last call leaves
-unfoldable pub leftBy : List ℕ → Sheet → List (List ℕ) → Sheet
-leftBy b x [] = endOf b x
-leftBy b x (p ∷ ps) = leftBy b (noText (partOf b x p)) ps
+unfoldable pub leftBy : Setup → Sheet → List (List ℕ) → Sheet
+leftBy setup sheet [] = endOf setup sheet
+leftBy setup sheet (part ∷ parts) = leftBy setup (noText (partOf setup sheet part)) parts
 
 -- the sheet of a made controller
-unfoldable pub begun : List ℕ → Sheet
-begun b = let made = makeOf b (replicate 411 0) in record { state = made .state; store = made .store; line = []; text = [] }
+unfoldable pub begun : Setup → Sheet
+begun setup = let made = whole.made setup in record { state = made .state; store = made .store; line = []; text = [] }
 
 -- ---- what a call leaves: state, record, the line so far, the buffer with the text at its front, and where the text ends
 
@@ -71,56 +77,58 @@ pub record After : Type 0 where
   pub out : List ℕ
   pub end : ℕ
 
-abbrev pub after : Between → List ℕ → List ℕ → ℕ → After
-after x d out end = record { state = x .state; store = d; line = take (x .kept) (x .line); out = out; end = end }
+abbrev pub after : Ran → List ℕ → List ℕ → After
+after ran store out =
+    let between = ran .between in
+    record { state = stateOf (between .state); store = store; line = take (between .kept) (between .line); out = out; end = ran .end }
 
 -- a sheet as a call finds it, with no text yet
 abbrev pub found : Between → List ℕ → Sheet
-found x d = record { state = x .state; store = d; line = take (x .kept) (x .line); text = [] }
+found between store = record { state = stateOf (between .state); store = store; line = take (between .kept) (between .line); text = [] }
 
 -- as a call leaves it
 abbrev pub leaving : Sheet → List ℕ → After
-leaving x out =
-    record { state = x .state; store = x .store; line = x .line; out = sets out 0 (x .text); end = length (x .text) }
+leaving sheet out =
+    record { state = sheet .state; store = sheet .store; line = sheet .line; out = sets out 0 (sheet .text); end = length (sheet .text) }
 
 -- a part is run if the buffer has 168 bytes, eight numbers of 21, for each of its bytes; else nothing changes
-unfoldable pub runOf : List ℕ → Sheet → List ℕ → List ℕ → After
-runOf b x input out = cond (leb (168 * length input) (length out)) (leaving (partOf b x input) out) (leaving x out)
+unfoldable pub runOf : Setup → Sheet → List ℕ → List ℕ → After
+runOf setup sheet input out = cond (leb (168 * length input) (length out)) (leaving (partOf setup sheet input) out) (leaving sheet out)
 
 -- the end of the input; a buffer of fewer than 168 bytes changes nothing
-unfoldable pub finishOf : List ℕ → Sheet → List ℕ → After
-finishOf b x out = cond (leb 168 (length out)) (leaving (endOf b x) out) (leaving x out)
+unfoldable pub finishOf : Setup → Sheet → List ℕ → After
+finishOf setup sheet out = cond (leb 168 (length out)) (leaving (endOf setup sheet) out) (leaving sheet out)
 
--- the beginning: a controller is made, and nothing is printed; of a refused bank the refusal's numbers, in a buffer of 168 bytes or more
-unfoldable pub startOf : List ℕ → List ℕ → List ℕ → After
-startOf b d out =
-    let made = makeOf b d in
-    let text = unless (foundIn b) (λ f. cond (leb 168 (length out)) (refusal f) []) [] in
+-- the text of a refusal, in a buffer of 168 bytes or more
+abbrev pub refusalIn : List ℕ → Checked → List ℕ
+refusalIn out found = cond (leb 168 (length out)) (refusal found) []
+
+-- the beginning: a controller is made, and nothing is printed; of a refused bank the refusal's numbers
+unfoldable pub startOf : Setup → List ℕ → List ℕ → After
+startOf setup store out =
+    let made = makeOutcome setup store in
+    let text = unless (foundIn (setup .bank)) (refusalIn out) [] in
     leaving (record { state = made .state; store = made .store; line = []; text = text }) out
 
+-- what the beginning leaves, and whether the bank is accepted
+pub record Begun (setup : Setup) (store out : List ℕ) (left : After) (accepted : Bool) : Type 0 where
+  pub is : left ≡ startOf setup store out
+  pub found : accepted ≡ isAccepted (foundIn (setup .bank))
+
 -- the credits, in a buffer of 99 lines of 42 bytes or more: what it holds and where the text ends
-pub record Written : Type 0 where
-  pub out : List ℕ
-  pub end : ℕ
-
-abbrev pub written : List ℕ → ℕ → Written
-written out end = record { out = out; end = end }
-
-unfoldable pub creditsOf : State → List ℕ → Written
-creditsOf s out =
-    let text = creditLines 1 (s .credits) in
-    cond (leb 4158 (length out)) (written (sets out 0 text) (length text)) (written out 0)
+unfoldable pub creditsOf : List ℕ → List ℕ → Put
+creditsOf credits out = cond (leb 4158 (length out)) (putText out 0 (creditLines 1 credits)) (put out 0)
 
 -- ---- within a call
 
 -- the line so far is answered, and its text stands at a place of the buffer
-unfoldable pub tookLine : List ℕ → Between → List ℕ → List ℕ → ℕ → After
-tookLine b x d out at =
-    let a = answeredTo b d (x .state) (take (x .kept) (x .line)) in
-    record { state = a .state; store = a .store; line = []; out = sets out at (a .printed); end = at + length (a .printed) }
+unfoldable pub tookLine : Setup → Sheet → List ℕ → ℕ → After
+tookLine setup sheet out at =
+    let answer = answeredTo setup (sheet .store) (sheet .state) (sheet .line) in
+    record { state = answer .state; store = answer .store; line = []; out = sets out at (answer .printed); end = at + length (answer .printed) }
 
 -- a byte of the input is taken
-unfoldable pub tookByte : List ℕ → Between → List ℕ → List ℕ → ℕ → ℕ → After
-tookByte b x d out at c =
-    cond (eqb c 10) (tookLine b x d out at)
-    (record { state = x .state; store = d; line = take 16 (take (x .kept) (x .line) ++ (c ∷ [])); out = out; end = at })
+unfoldable pub tookByte : Setup → Sheet → List ℕ → ℕ → ℕ → After
+tookByte setup sheet out at c =
+    cond (eqb c 10) (tookLine setup sheet out at)
+    (record { state = sheet .state; store = sheet .store; line = take 16 (sheet .line ++ (c ∷ [])); out = out; end = at })

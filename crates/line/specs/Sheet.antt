@@ -8,7 +8,9 @@ use lib.IntN.{pos}
 use lib.ListN.{replicate}
 use Rattle.setting.specs.Found.{unless}
 use Rattle.bank.specs.Check.{foundIn}
-use Rattle.controller.specs.Event.{makeOf}
+use Rattle.plain.specs.Record.{recordSize}
+use Rattle.plain.specs.Setup.{Setup}
+use Rattle.plain.specs.Event.{makeOutcome}
 use Rattle.decimal.specs.Text.{lineOf}
 use Rattle.line.specs.Text.{refusal, Answered, answered, answeredTo}
 
@@ -23,31 +25,33 @@ linesFrom line [] = lastLine line
 linesFrom line (c ∷ cs) = cond (eqb c 10) (line ∷ linesFrom [] cs) (linesFrom (line ++ (c ∷ [])) cs)
 
 -- a line behind others: it gets the state and record that they left, and its text follows theirs
-unfoldable pub nextLine : List ℕ → Answered → List ℕ → Answered
-nextLine b a line =
-    let next = answeredTo b (a .store) (a .state) line in
-    answered (next .state) (next .store) (a .printed ++ next .printed)
+unfoldable pub nextLine : Setup → Answered → List ℕ → Answered
+nextLine setup before line =
+    let next = answeredTo setup (before .store) (before .state) line in
+    answered (next .state) (next .store) (before .printed ++ next .printed)
 
 -- lines one after the other
-unfoldable pub answersTo : List ℕ → Answered → List (List ℕ) → Answered
-answersTo b a [] = a
-answersTo b a (line ∷ lines) = answersTo b (nextLine b a line) lines
+unfoldable pub answersTo : Setup → Answered → List (List ℕ) → Answered
+answersTo setup before [] = before
+answersTo setup before (line ∷ lines) = answersTo setup (nextLine setup before line) lines
 
--- a controller is made, and the lines of the input are run by it
-unfoldable pub allOf : List ℕ → List ℕ → Answered
-allOf b input =
-    let made = makeOf b (replicate 411 0) in
-    answersTo b (answered (made .state) (made .store) []) (linesFrom [] input)
+-- a controller is made over a record of zeros
+unfoldable pub made : Setup → Answered
+made setup = let first = makeOutcome setup (replicate recordSize 0) in answered (first .state) (first .store) []
+
+-- and the lines of the input are run by it
+unfoldable pub allOf : Setup → List ℕ → Answered
+allOf setup input = answersTo setup (made setup) (linesFrom [] input)
 
 -- what `sheet` prints
-unfoldable pub sheetText : List ℕ → List ℕ → List ℕ
-sheetText b input = unless (foundIn b) refusal (allOf b input .printed)
+unfoldable pub sheetText : Setup → List ℕ → List ℕ
+sheetText setup input = unless (foundIn (setup .bank)) refusal (allOf setup input .printed)
 
 -- a line "k seconds" for each step whose credit is not 0; k is the step of the first credit
 unfoldable pub creditLines : ℕ → List ℕ → List ℕ
 creditLines k [] = []
-creditLines k (c ∷ cs) = cond (eqb c 0) [] (lineOf (pos k ∷ pos c ∷ [])) ++ creditLines (k + 1) cs
+creditLines k (credit ∷ credits) = cond (eqb credit 0) [] (lineOf (pos k ∷ pos credit ∷ [])) ++ creditLines (k + 1) credits
 
 -- what `credits` prints, after the last line
-unfoldable pub creditsText : List ℕ → List ℕ → List ℕ
-creditsText b input = unless (foundIn b) refusal (creditLines 1 (allOf b input .state .credits))
+unfoldable pub creditsText : Setup → List ℕ → List ℕ
+creditsText setup input = unless (foundIn (setup .bank)) refusal (creditLines 1 (allOf setup input .state .credits))

@@ -1,8 +1,8 @@
 // The lines of the programs `sheet` and `credits`: run one after the other over one controller, an input that comes in parts.
 ghost use mathlib.Core.Path.{_≡_};
-ghost use Rattle.setting.specs.Found.{isAccepted};
-ghost use Rattle.bank.specs.Check.{foundIn};
-ghost use Rattle.line.specs.Part.{after, found, written, runOf, finishOf, startOf, creditsOf};
+ghost use Rattle.plain.specs.Setup.{over};
+ghost use Rattle.decimal.specs.Text.{put};
+ghost use Rattle.line.specs.Part.{after, found, runOf, finishOf, Begun, creditsOf};
 use crate::lines::take;
 use crate::lines::take_line;
 use crate::text::put_refusal;
@@ -31,75 +31,67 @@ pub struct Started {
     pub is_accepted: bool,
 }
 
-// No line so far.
-fn empty(state: State) -> Between
-    ensures { λ r. ⌜ (r .state ≡ state) × (r .kept ≡ 0) ⌝ }
-{
-    Between {
-        state,
-        line: [0; 16],
-        kept: 0,
-    }
-}
-
-// The beginning: a controller is made. A refused bank's numbers stand at the front of `out`.
+// The beginning: a controller is made, and no line has begun. A refused bank's numbers stand at the front of `out`.
 pub fn start(bank: &[u8], store: &mut [u8], out: &mut [u8]) -> Started
-    ensures { λ r. ⌜ (after (r .ran .between) (now (store .exit)) (now (out .exit)) (r .ran .end) ≡ startOf (now (bank .entry)) (now (store .entry)) (now (out .entry))) × (r .«is_accepted» ≡ isAccepted (foundIn (now (bank .entry)))) ⌝ }
+    ensures { λ r. ⌜ Begun (over (now (bank .entry))) (now (store .entry)) (now (out .entry)) (after (r .ran) (now (store .exit)) (now (out .exit))) (r .«is_accepted») ⌝ }
 {
+    let made = controller::make(bank, store);
+    let state = made.state;
+    let line = [0u8; 16];
+    let between = Between {
+        state,
+        line,
+        kept: 0,
+    };
     let checked = bank::check(bank);
     let Checked::Accepted = checked else {
         return Started {
             ran: Ran {
-                between: empty(controller::dark_state()),
+                between,
                 end: put_refusal(checked, out),
             },
             is_accepted: false,
         };
     };
-    let made = controller::make(bank, store);
-    let state = made.state;
     Started {
-        ran: Ran {
-            between: empty(state),
-            end: 0,
-        },
+        ran: Ran { between, end: 0 },
         is_accepted: true,
     }
 }
 
 // A part of the input: each line that ends in it is run, and the text of all stands at the front of `out`.
 pub fn run(bank: &[u8], store: &mut [u8], between: Between, input: &[u8], out: &mut [u8]) -> Ran
-    ensures { λ r. ⌜ after (r .between) (now (store .exit)) (now (out .exit)) (r .end) ≡ runOf (now (bank .entry)) (found between (now (store .entry))) (now (input .entry)) (now (out .entry)) ⌝ }
+    ensures { λ r. ⌜ after r (now (store .exit)) (now (out .exit)) ≡ runOf (over (now (bank .entry))) (found between (now (store .entry))) (now (input .entry)) (now (out .entry)) ⌝ }
 {
-    let mut x = Ran { between, end: 0 };
+    let mut ran = Ran { between, end: 0 };
     if out.len() / 168 < input.len() {
-        return x;
+        return ran;
     }
     let mut i: usize = 0;
     while i < input.len() {
-        x = take(bank, store, x, input[i], out);
+        ran = take(bank, store, ran, input[i], out);
         i += 1;
     }
-    x
+    ran
 }
 
 // The end of the input: a last line without a newline counts if it is not empty.
 pub fn finish(bank: &[u8], store: &mut [u8], between: Between, out: &mut [u8]) -> Ran
-    ensures { λ r. ⌜ after (r .between) (now (store .exit)) (now (out .exit)) (r .end) ≡ finishOf (now (bank .entry)) (found between (now (store .entry))) (now (out .entry)) ⌝ }
+    ensures { λ r. ⌜ after r (now (store .exit)) (now (out .exit)) ≡ finishOf (over (now (bank .entry))) (found between (now (store .entry))) (now (out .entry)) ⌝ }
 {
-    let x = Ran { between, end: 0 };
+    let ran = Ran { between, end: 0 };
     if out.len() < 168 {
-        return x;
+        return ran;
     }
-    if x.between.kept == 0 {
-        return x;
+    if ran.between.kept == 0 {
+        return ran;
     }
-    take_line(bank, store, x, out)
+    take_line(bank, store, ran, out)
 }
 
 // The credits of a state: a line `k seconds` for each step whose credit is not 0, at the front of `out`.
 pub fn credits(state: State, out: &mut [u8]) -> usize
-    ensures { λ r. ⌜ written (now (out .exit)) r ≡ creditsOf state (now (out .entry)) ⌝ }
+    ensures { λ r. ⌜ put (now (out .exit)) r ≡ creditsOf (state .credits) (now (out .entry)) ⌝ }
 {
     if out.len() < 4158 {
         return 0;

@@ -1,29 +1,31 @@
 // One line, and one byte of the input.
 ghost use mathlib.Core.Path.{_≡_};
 ghost use Prim.Native.Nat.{_+_, _≤_, min};
+ghost use lib.IntN.{pos};
 ghost use lib.ListN.{length};
-ghost use Rattle.controller.specs.Event.{left, eventOf};
-ghost use Rattle.decimal.specs.Text.{lineOf};
-ghost use Rattle.line.specs.Text.{eight, answered, asked};
-ghost use Rattle.line.specs.Part.{after, tookLine, tookByte};
+ghost use Rattle.plain.specs.Setup.{over};
+ghost use Rattle.plain.specs.Event.{eventOutcome};
+ghost use Rattle.controller.specs.Holds.{stateOf, after as left};
+ghost use Rattle.line.specs.Text.{said, askedFor};
+ghost use Rattle.line.specs.Part.{after, found, tookLine, tookByte};
 use crate::Between;
 use crate::Ran;
 use crate::text::put_eight;
-use controller::Event;
 use controller::Outcome;
 use controller::State;
-use key::Asked;
 use key::parse;
+use plain::Asked;
+use plain::Event;
 
 // An event of a line, by the controller's own methods.
-fn event(bank: &[u8], store: &mut [u8], s: State, e: Event) -> Outcome
-    ensures { λ o. ⌜ left (o .state) (now (store .exit)) (o .answer) ≡ eventOf (now (bank .entry)) (now (store .entry)) s e ⌝ }
+fn event(bank: &[u8], store: &mut [u8], state: State, event: Event) -> Outcome
+    ensures { λ o. ⌜ left (o .state) (now (store .exit)) (o .answer) ≡ eventOutcome (over (now (bank .entry))) (now (store .entry)) (stateOf state) event ⌝ }
 {
-    match e {
-        Event::Tick(r) => s.tick(bank, store, r),
-        Event::Press(c) => s.command(bank, store, c),
-        Event::Cut => s.cut(bank, store),
-        Event::Return(r) => s.restore(bank, store, r),
+    match event {
+        Event::Tick(reading) => state.tick(bank, store, reading),
+        Event::Press(command) => state.command(bank, store, command),
+        Event::Cut => state.cut(bank, store),
+        Event::Return(reading) => state.restore(bank, store, reading),
     }
 }
 
@@ -34,68 +36,66 @@ struct Said {
 }
 
 // What a line asks for is done; a line of any other form has the number 99.
-fn respond(bank: &[u8], store: &mut [u8], s: State, ask: Asked) -> Said
-    ensures { λ r. ⌜ answered (r .state) (now (store .exit)) (lineOf (eight (now (bank .entry)) (r .number) (r .state))) ≡ asked (now (bank .entry)) (now (store .entry)) s ask ⌝ }
+fn respond(bank: &[u8], store: &mut [u8], state: State, asked: Asked) -> Said
+    ensures { λ r. ⌜ said (over (now (bank .entry))) (stateOf (r .state)) (now (store .exit)) (pos (r .number)) ≡ askedFor (over (now (bank .entry))) (now (store .entry)) (stateOf state) asked ⌝ }
 {
-    let Asked::Of(e) = ask else {
-        return Said {
-            state: s,
-            number: 99,
-        };
+    let Asked::Of(wanted) = asked else {
+        return Said { state, number: 99 };
     };
-    let o = event(bank, store, s, e);
-    let left = o.state;
-    let a = o.answer;
+    let outcome = event(bank, store, state, wanted);
+    let next = outcome.state;
+    let answer = outcome.answer;
     Said {
-        state: left,
-        number: answer::of_answer(a).number,
+        state: next,
+        number: answer::number(answer),
     }
 }
 
-// The line so far is run, and its text stands at a place of the buffer. No line has begun then.
-pub fn take_line(bank: &[u8], store: &mut [u8], x: Ran, out: &mut [u8]) -> Ran
-    requires { ⌜ x .end + 168 ≤ length (now out) ⌝ }
-    ensures { λ r. ⌜ after (r .between) (now (store .exit)) (now (out .exit)) (r .end) ≡ tookLine (now (bank .entry)) (x .between) (now (store .entry)) (now (out .entry)) (x .end) ⌝ }
+// The smaller of two numbers.
+fn least(x: usize, y: usize) -> usize
+    ensures { λ r. ⌜ r ≡ min x y ⌝ }
 {
-    let b = x.between;
-    let state = b.state;
-    let line = b.line;
-    let kept = least(b.kept, 16);
+    if x < y { x } else { y }
+}
+
+// The line so far is run, and its text stands at a place of the buffer. No line has begun then.
+pub fn take_line(bank: &[u8], store: &mut [u8], ran: Ran, out: &mut [u8]) -> Ran
+    requires { ⌜ ran .end + 168 ≤ length (now out) ⌝ }
+    ensures { λ r. ⌜ after r (now (store .exit)) (now (out .exit)) ≡ tookLine (over (now (bank .entry))) (found (ran .between) (now (store .entry))) (now (out .entry)) (ran .end) ⌝ }
+{
+    let between = ran.between;
+    let state = between.state;
+    let line = between.line;
+    let kept = least(between.kept, 16);
     let said = respond(bank, store, state, parse(&line[..kept]));
     let next = said.state;
+    let run = next.run;
     Ran {
         between: Between {
             state: next,
             line,
             kept: 0,
         },
-        end: put_eight(bank, said.number, next, out, x.end),
+        end: put_eight(bank, said.number, run, out, ran.end),
     }
-}
-
-// The smaller of two numbers.
-fn least(a: usize, b: usize) -> usize
-    ensures { λ r. ⌜ r ≡ min a b ⌝ }
-{
-    if a < b { a } else { b }
 }
 
 // A byte of the input is taken: the newline ends a line; of any other line the first 16 bytes are kept.
-pub fn take(bank: &[u8], store: &mut [u8], x: Ran, c: u8, out: &mut [u8]) -> Ran
-    requires { ⌜ x .end + 168 ≤ length (now out) ⌝ }
-    ensures { λ r. ⌜ after (r .between) (now (store .exit)) (now (out .exit)) (r .end) ≡ tookByte (now (bank .entry)) (x .between) (now (store .entry)) (now (out .entry)) (x .end) c ⌝ }
+pub fn take(bank: &[u8], store: &mut [u8], ran: Ran, c: u8, out: &mut [u8]) -> Ran
+    requires { ⌜ ran .end + 168 ≤ length (now out) ⌝ }
+    ensures { λ r. ⌜ after r (now (store .exit)) (now (out .exit)) ≡ tookByte (over (now (bank .entry))) (found (ran .between) (now (store .entry))) (now (out .entry)) (ran .end) c ⌝ }
 {
     if c == b'\n' {
-        return take_line(bank, store, x, out);
+        return take_line(bank, store, ran, out);
     }
-    let mut b = x.between;
-    let kept = b.kept;
+    let mut between = ran.between;
+    let kept = between.kept;
     if kept < 16 {
-        b.line[kept] = c;
-        b.kept = kept + 1;
+        between.line[kept] = c;
+        between.kept = kept + 1;
     }
     Ran {
-        between: b,
-        end: x.end,
+        between,
+        end: ran.end,
     }
 }

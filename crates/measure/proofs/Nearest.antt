@@ -1,7 +1,12 @@
--- The whole number of a value in range: how near it is, its range, and how code finds it: twice the value is a float exactly, its whole part n is twice the value rounded down, and (n + 1) / 2 is the value with a half rounded up.
+-- The whole number of a value in range: how near it is, its range, and how code finds it: twice the value is a float exactly, its whole
+-- part is twice the value rounded down, and that, with one added and halved, is the value with a half rounded up.
+-- Assumes nothing.
 use mathlib.Core.Path.{_≡_, refl, sym, ap, _∙_}
 use Prim.Native.Nat.{ℕ, zero, suc, _+_, _-_, _*_, _/_, _%_, _^_, _≤_, _<_, suc-le-suc, min}
-use native.Mathlib.Nat.{le-trans, le-of-eq, le-refl, lt-of-le-of-lt, lt-of-lt-of-le, lt-of-not-le, not-le-of-lt, mul-one, one-mul, mul-comm, mul-assoc, mul-left-comm, mul-right-comm, mul-pos, mul-le-mul-right, mul-lt-mul-of-pos-right, le-of-mul-le-mul-right, lt-of-mul-lt-mul-right, div-mul-le-self, div-lt-iff-lt-mul, div-div-eq-div-mul, add-div-right, suc-mul, add-mul, div-eq-of-lt, mul-add-div-right, add-zero}
+use native.Mathlib.Nat.{le-trans, le-of-eq, le-refl, lt-of-le-of-lt, lt-of-lt-of-le, lt-of-not-le, not-le-of-lt, add-zero}
+use native.Mathlib.Nat.{mul-one, one-mul, mul-comm, mul-assoc, mul-left-comm, mul-right-comm, mul-pos, suc-mul, add-mul}
+use native.Mathlib.Nat.{mul-le-mul-right, mul-lt-mul-of-pos-right, le-of-mul-le-mul-right, lt-of-mul-lt-mul-right}
+use native.Mathlib.Nat.{div-mul-le-self, div-lt-iff-lt-mul, div-div-eq-div-mul, add-div-right, div-eq-of-lt, mul-add-div-right}
 use native.Mathlib.Omega.{arith}
 use mathlib.Core.Bool.{Bool, true, false, _&&_, cond, true≢false}
 use borrow.Author.Tests.{ltb-true, ltb-false, lt-ltb}
@@ -18,150 +23,153 @@ use Rattle.measure.specs.Filter.{halfUp, signed, rounded, nearest, withi
 use Rattle.measure.proofs.Range.{Within, InRange, inside, within-true, negative, size}
 use Rattle.measure.specs.Bound.{end}
 
--- ---- how near: 2 * (w * d) is at most d above 2 * a and less than d below it, so a half goes up
+-- ---- how near: 2 * (whole * d) is at most d above 2 * a and less than d below it, so a half goes up
 pub halfUp-near : (a d : ℕ) → 0 < d → (2 * (halfUp a d * d) ≤ 2 * a + d) × (2 * a < 2 * (halfUp a d * d) + d)
-halfUp-near a d p =
-    let w = halfUp a d in
-    let c : w * (2 * d) ≡ 2 * (w * d) = mul-left-comm w 2 d in
-    let l : w * (2 * d) ≤ _ = div-mul-le-self _ (2 * d) in
-    let u : _ < suc w * (2 * d) = div-lt-iff-lt-mul (mul-pos (lit< tt) p) .0 (le-refl (suc w)) in
-    let s : suc w * (2 * d) ≡ w * (2 * d) + 2 * d = suc-mul w (2 * d) in
+halfUp-near a d positive =
+    let whole = halfUp a d in
+    let c : whole * (2 * d) ≡ 2 * (whole * d) = mul-left-comm whole 2 d in
+    let l : whole * (2 * d) ≤ _ = div-mul-le-self _ (2 * d) in
+    let upper : _ < suc whole * (2 * d) = div-lt-iff-lt-mul (mul-pos (lit< tt) positive) .0 (le-refl (suc whole)) in
+    let next : suc whole * (2 * d) ≡ whole * (2 * d) + 2 * d = suc-mul whole (2 * d) in
     (omega arith, omega arith)
 
 -- ---- its range: no further out than the end
 pub halfUp-range : (a d c : ℕ) → 0 < d → a ≤ c * d → halfUp a d ≤ c
-halfUp-range a d c p h =
-    let w = halfUp a d in
-    let n : 2 * (w * d) ≤ 2 * a + d = halfUp-near a d p .0 in
-    let k : 2 * w * d ≤ (2 * c + 1) * d = grow (w * d) (c * d) (2 * w * d) ((2 * c + 1) * d) d a (mul-assoc 2 w d) (wide c d) n h in
-    odd-le w c (le-of-mul-le-mul-right k p)
+halfUp-range a d c positive h =
+    let whole = halfUp a d in
+    let count : 2 * (whole * d) ≤ 2 * a + d = halfUp-near a d positive .0 in
+    let grown : 2 * whole * d ≤ (2 * c + 1) * d = grow (whole * d) (c * d) (2 * whole * d) ((2 * c + 1) * d) d a (mul-assoc 2 whole d) (wide c d) count h in
+    odd-le whole c (le-of-mul-le-mul-right grown positive)
   where
     wide : (c d : ℕ) → (2 * c + 1) * d ≡ 2 * (c * d) + d
     wide c d = simp (add-mul, one-mul, mul-assoc)
 
-    grow : (x y l r d a : ℕ) → l ≡ 2 * x → r ≡ 2 * y + d → 2 * x ≤ 2 * a + d → a ≤ y → l ≤ r
-    grow x y l r d a e f g h = omega arith
+    grow : (x y l right d a : ℕ) → l ≡ 2 * x → right ≡ 2 * y + d → 2 * x ≤ 2 * a + d → a ≤ y → l ≤ right
+    grow x y l right d a first f g h = omega arith
 
-    odd-le : (w c : ℕ) → 2 * w ≤ 2 * c + 1 → w ≤ c
-    odd-le w c h = omega arith
+    odd-le : (whole c : ℕ) → 2 * whole ≤ 2 * c + 1 → whole ≤ c
+    odd-le whole c h = omega arith
 
-pub signed-range : (s : Bool) (w : ℕ) → w ≤ end s → InRange (signed s w)
-signed-range false w h = h
+pub signed-range : (sign : Bool) (whole : ℕ) → whole ≤ end sign → InRange (signed sign whole)
+signed-range false whole h = h
 signed-range true zero h = lit≤ tt
-signed-range true (suc w) h = h
+signed-range true (suc whole) h = h
 
 -- ---- a whole number is its own nearest
-pub halfUp-whole : (a d n : ℕ) → 0 < d → a ≡ n * d → halfUp a d ≡ n
-halfUp-whole a d n p h =
+pub halfUp-whole : (a d count : ℕ) → 0 < d → a ≡ count * d → halfUp a d ≡ count
+halfUp-whole a d count positive h =
     ap (λ (x : ℕ). (2 * x + d) / (2 * d)) h
-    ∙ ap (λ (x : ℕ). (x + d) / (2 * d)) (mul-left-comm 2 n d)
-    ∙ mul-add-div-right (mul-pos (lit< tt) p) n d
-    ∙ ap (λ (x : ℕ). n + x) (div-eq-of-lt (less d p))
-    ∙ add-zero n
+    ∙ ap (λ (x : ℕ). (x + d) / (2 * d)) (mul-left-comm 2 count d)
+    ∙ mul-add-div-right (mul-pos (lit< tt) positive) count d
+    ∙ ap (λ (x : ℕ). count + x) (div-eq-of-lt (less d positive))
+    ∙ add-zero count
   where
     less : (d : ℕ) → 0 < d → d < 2 * d
     less d h = omega arith
 
 pub rounded-exact : (x : Float) (z : ℤ) → HasValue x (negative z) (size z) 1 → rounded x ≡ z
 rounded-exact nan z h = absurd h
-rounded-exact (inf s) z h = absurd h
-rounded-exact (fin s m e) z h = ap (λ (b : Bool). signed b (halfUp (m * up e) (down e))) (h .0) ∙ ap (signed (negative z)) (halfUp-whole (m * up e) (down e) (size z) (down-pos e) (sym (mul-one (m * up e)) ∙ h .1)) ∙ back z
+rounded-exact (inf sign) z h = absurd h
+rounded-exact (fin sign m exponent) z h =
+    ap (λ (t : Bool). signed t (halfUp (m * up exponent) (down exponent))) (h .0)
+    ∙ ap (signed (negative z)) (halfUp-whole (m * up exponent) (down exponent) (size z) (down-pos exponent) (sym (mul-one (m * up exponent)) ∙ h .1)) ∙ back z
   where
     back : (z : ℤ) → signed (negative z) (size z) ≡ z
-    back (pos n) = refl
-    back (negsuc n) = refl
+    back (pos count) = refl
+    back (negsuc count) = refl
 
 -- ---- what is rounded is in range
 rounded-range : (y : Float) → Within y → InRange (rounded y)
 rounded-range nan h = absurd h
-rounded-range (inf s) h = absurd h
-rounded-range (fin s m e) h = signed-range s (halfUp (m * up e) (down e)) (halfUp-range (m * up e) (down e) (end s) (down-pos e) h)
+rounded-range (inf sign) h = absurd h
+rounded-range (fin sign m exponent) h = signed-range sign (halfUp (m * up exponent) (down exponent)) (halfUp-range (m * up exponent) (down exponent) (end sign) (down-pos exponent) h)
 
 pub nearest-range : (y : Float) → InRange (nearest y)
 unfolding nearest
 nearest-range y = go (within y) (λ h. rounded-range y (inside y h))
   where
-    go : (b : Bool) → (b ≡ true → InRange (rounded y)) → InRange (cond b (rounded y) (pos 0))
+    go : (other : Bool) → (other ≡ true → InRange (rounded y)) → InRange (cond other (rounded y) (pos 0))
     go true h = h refl
     go false h = lit≤ tt
 
 -- ---- what fitting an `f64` says
-pub fits-parts : (s : Bool) (m : ℕ) (e : ℤ) → T (fits binary64 (fin s m e)) → (m < 2 ^ 53) × (down e ≤ 2 ^ 1074)
+pub fits-parts : (sign : Bool) (m : ℕ) (exponent : ℤ) → T (fits binary64 (fin sign m exponent)) → (m < 2 ^ 53) × (down exponent ≤ 2 ^ 1074)
 unfolding fits
-fits-parts s zero (pos k) h = (lit< tt, lit≤ tt)
-fits-parts s zero (negsuc k) h = (lit< tt, le-trans (le-of-eq (sym (one-mul (2 ^ suc k)) ∙ eqb→eq (1 * 2 ^ suc k) 1 h)) (lit≤ tt))
-fits-parts s (suc m) e h =
+fits-parts sign zero (pos power) h = (lit< tt, lit≤ tt)
+fits-parts sign zero (negsuc power) h = (lit< tt, le-trans (le-of-eq (sym (one-mul (2 ^ suc power)) ∙ eqb→eq (1 * 2 ^ suc power) 1 h)) (lit≤ tt))
+fits-parts sign (suc m) exponent h =
     let a : Bool = eqb (suc m % 2) 1 in
-    let b : Bool = ltb (suc m) (2 ^ 53) in
-    let c : Bool = leb (down e) (2 ^ 1074) in
-    let d : Bool = ltb (suc m * up e) (2 ^ 1024 * down e) in
-    let abc : T (a && b && c) = and-l (a && b && c) d h in
-    (ltb→lt (suc m) (2 ^ 53) (and-r a b (and-l (a && b) c abc)), leb→le (down e) (2 ^ 1074) (and-r (a && b) c abc))
+    let other : Bool = ltb (suc m) (2 ^ 53) in
+    let c : Bool = leb (down exponent) (2 ^ 1074) in
+    let d : Bool = ltb (suc m * up exponent) (2 ^ 1024 * down exponent) in
+    let abc : T (a && other && c) = and-l (a && other && c) d h in
+    (ltb→lt (suc m) (2 ^ 53) (and-r a other (and-l (a && other) c abc)), leb→le (down exponent) (2 ^ 1074) (and-r (a && other) c abc))
 
--- ---- 2 ^ e, in units of 2 ^ -1075, is a power of two
-room : (k : ℕ) → 2 ^ suc k ≤ 2 ^ 1074 → suc k ≤ 1074
-room k h = lt-of-not-le (λ (g : 1074 ≤ k). not-le-of-lt (pow-lt (suc-le-suc g)) h)
+-- ---- 2 ^ exponent, in units of 2 ^ -1075, is a power of two
+room : (power : ℕ) → 2 ^ suc power ≤ 2 ^ 1074 → suc power ≤ 1074
+room power h = lt-of-not-le (λ (g : 1074 ≤ power). not-le-of-lt (pow-lt (suc-le-suc g)) h)
 
-more : (k : ℕ) → suc k ≤ 1074 → suc k ≤ 1075
-more k h = omega arith
+more : (power : ℕ) → suc power ≤ 1074 → suc power ≤ 1075
+more power h = omega arith
 
-shift : (e : ℤ) → down e ≤ 2 ^ 1074 → (j : ℕ) × (2 ^ j * down e ≡ up e * 2 ^ 1075)
-shift (pos k) h = (k + 1075, mul-one (2 ^ (k + 1075)) ∙ pow-add 2 k 1075)
-shift (negsuc k) h = (
-  1075 - suc k,
-  sym (pow-add 2 (1075 - suc k) (suc k)) ∙ ap (λ (x : ℕ). 2 ^ x) (back 1075 (suc k) (more k (room k h))) ∙ sym (one-mul (2 ^ 1075)),
+shift : (exponent : ℤ) → down exponent ≤ 2 ^ 1074 → (j : ℕ) × (2 ^ j * down exponent ≡ up exponent * 2 ^ 1075)
+shift (pos power) h = (power + 1075, mul-one (2 ^ (power + 1075)) ∙ pow-add 2 power 1075)
+shift (negsuc power) h = (
+  1075 - suc power,
+  sym (pow-add 2 (1075 - suc power) (suc power)) ∙ ap (λ (x : ℕ). 2 ^ x) (back 1075 (suc power) (more power (room power h))) ∙ sym (one-mul (2 ^ 1075)),
 )
 
 -- ---- twice a value in range is exact
-module _ (m : ℕ) (e : ℤ) (small : m < 2 ^ 53) (fine : down e ≤ 2 ^ 1074) (h : m * up e ≤ 29999 * down e) where
-  doubled : HasValue (round binary64 false (m * up e * 2) (down e * 1)) false (m * up e * 2) (down e * 1)
+module _ (m : ℕ) (exponent : ℤ) (small : m < 2 ^ 53) (fine : down exponent ≤ 2 ^ 1074) (h : m * up exponent ≤ 29999 * down exponent) where
+  doubled : HasValue (round binary64 false (m * up exponent * 2) (down exponent * 1)) false (m * up exponent * 2) (down exponent * 1)
   doubled =
-      let j = shift e fine .0 in
-      let q : m * 2 ^ j * down e ≡ m * up e * 2 ^ 1075 = mul-assoc m (2 ^ j) (down e) ∙ ap (λ (x : ℕ). m * x) (shift e fine .1) ∙ sym (mul-assoc m (up e) (2 ^ 1075)) in
-      let b : m * 2 ^ j ≤ 29999 * 2 ^ 1075 =
-      le-of-mul-le-mul-right (le-trans (le-of-eq q) (le-trans (mul-le-mul-right (2 ^ 1075) h) (le-of-eq (mul-right-comm 29999 (down e) (2 ^ 1075))))) (down-pos e) in
-      round-exact binary64 false (m * up e * 2) (down e * 1) m j (mul-pos (down-pos e) (lit< tt)) small (lt-of-le-of-lt b (lit< tt))
-      (mul-assoc (m * up e) 2 (2 ^ 1074) ∙ sym q ∙ ap (λ (x : ℕ). m * 2 ^ j * x) (sym (mul-one (down e))))
+      let j = shift exponent fine .0 in
+      let q : m * 2 ^ j * down exponent ≡ m * up exponent * 2 ^ 1075 =
+      mul-assoc m (2 ^ j) (down exponent) ∙ ap (λ (x : ℕ). m * x) (shift exponent fine .1) ∙ sym (mul-assoc m (up exponent) (2 ^ 1075)) in
+      let other : m * 2 ^ j ≤ 29999 * 2 ^ 1075 =
+      le-of-mul-le-mul-right (le-trans (le-of-eq q) (le-trans (mul-le-mul-right (2 ^ 1075) h) (le-of-eq (mul-right-comm 29999 (down exponent) (2 ^ 1075))))) (down-pos exponent) in
+      round-exact binary64 false (m * up exponent * 2) (down exponent * 1) m j (mul-pos (down-pos exponent) (lit< tt)) small (lt-of-le-of-lt other (lit< tt))
+      (mul-assoc (m * up exponent) 2 (2 ^ 1074) ∙ sym q ∙ ap (λ (x : ℕ). m * 2 ^ j * x) (sym (mul-one (down exponent))))
 
 -- ---- the whole part of a float that is a / c, from 0 up and below 2 ^ 64
-capped : (n : ℕ) → n < 18446744073709551616 → min n 18446744073709551615 ≡ n
-capped n h = omega arith
+capped : (count : ℕ) → count < 18446744073709551616 → min count 18446744073709551615 ≡ count
+capped count h = omega arith
 
 one-down : (d x : ℕ) → 0 < d → 0 < 1 * d + x
 one-down d x h = omega arith
 
 module _ (a c : ℕ) (pc : 0 < c) (h : a < 2 ^ 64 * c) where
-  cut-below : (m : ℕ) (e : ℤ) → m * up e * c ≡ a * down e → m * up e * 1 < 2 ^ 64 * down e
-  cut-below m e v =
-      lt-of-le-of-lt (le-of-eq (mul-one (m * up e)))
+  cut-below : (m : ℕ) (exponent : ℤ) → m * up exponent * c ≡ a * down exponent → m * up exponent * 1 < 2 ^ 64 * down exponent
+  cut-below m exponent v =
+      lt-of-le-of-lt (le-of-eq (mul-one (m * up exponent)))
       (lt-of-mul-lt-mul-right c
-      (lt-of-le-of-lt (le-of-eq v) (lt-of-lt-of-le (mul-lt-mul-of-pos-right h (down-pos e)) (le-of-eq (mul-right-comm (2 ^ 64) c (down e))))))
+      (lt-of-le-of-lt (le-of-eq v) (lt-of-lt-of-le (mul-lt-mul-of-pos-right h (down-pos exponent)) (le-of-eq (mul-right-comm (2 ^ 64) c (down exponent))))))
 
   -- what `truncating_f64_to_u64` asks
   cut-range : (x : Float) → HasValue x false a c → T (lt (fin true 1 (pos 0)) x) × T (lt x (fin false 1 (pos 64)))
   unfolding lt
   cut-range nan v = absurd v
-  cut-range (inf s) v = absurd v
-  cut-range (fin true m e) v = absurd (true≢false (v .0))
-  cut-range (fin false m e) v = (
-    lt→ltb 0 (1 * down e + m * up e * 1) (one-down (down e) (m * up e * 1) (down-pos e)),
-    lt→ltb (m * up e * 1) (2 ^ 64 * down e) (cut-below m e (v .1)),
+  cut-range (inf sign) v = absurd v
+  cut-range (fin true m exponent) v = absurd (true≢false (v .0))
+  cut-range (fin false m exponent) v = (
+    lt→ltb 0 (1 * down exponent + m * up exponent * 1) (one-down (down exponent) (m * up exponent * 1) (down-pos exponent)),
+    lt→ltb (m * up exponent * 1) (2 ^ 64 * down exponent) (cut-below m exponent (v .1)),
   )
 
   cut-value : (x : Float) → HasValue x false a c → toUnsigned 64 x ≡ a / c
   unfolding toUnsigned
   cut-value nan v = absurd v
-  cut-value (inf s) v = absurd v
-  cut-value (fin true m e) v = absurd (true≢false (v .0))
-  cut-value (fin false m e) v =
-      ap (λ (x : ℕ). min x (2 ^ 64 - 1)) (div-same (m * up e) (down e) a c (down-pos e) pc (v .1))
+  cut-value (inf sign) v = absurd v
+  cut-value (fin true m exponent) v = absurd (true≢false (v .0))
+  cut-value (fin false m exponent) v =
+      ap (λ (x : ℕ). min x (2 ^ 64 - 1)) (div-same (m * up exponent) (down exponent) a c (down-pos exponent) pc (v .1))
       ∙ capped (a / c) (div-lt-iff-lt-mul pc .1 h)
 
 -- ---- from twice the value, rounded down
 halved : (a d : ℕ) → 0 < d → (a * 2 / (d * 1) + 1) / 2 ≡ halfUp a d
-halved a d p =
+halved a d positive =
     ap (λ (x : ℕ). (a * 2 / x + 1) / 2) (mul-one d)
-    ∙ ap (λ (x : ℕ). x / 2) (sym (add-div-right (a * 2) p))
+    ∙ ap (λ (x : ℕ). x / 2) (sym (add-div-right (a * 2) positive))
     ∙ div-div-eq-div-mul (a * 2 + d) d 2
     ∙ ap (λ (x : ℕ). (x + d) / (d * 2)) (mul-comm a 2)
     ∙ ap (λ (x : ℕ). (2 * a + d) / x) (mul-comm d 2)
@@ -172,26 +180,27 @@ pub record Near (a d : ℕ) (x : Float) : Type 0 where
   pub short : toUnsigned 64 x ≤ 59998
   pub whole : (toUnsigned 64 x + 1) / 2 ≡ halfUp a d
 
-twice-le : (a d k : ℕ) → a ≤ k → k ≡ 29999 * d → a * 2 ≤ 59998 * (d * 1)
-twice-le a d k h e = omega arith
+twice-le : (a d top : ℕ) → a ≤ top → top ≡ 29999 * d → a * 2 ≤ 59998 * (d * 1)
+twice-le a d top h same = omega arith
 
-near : (m : ℕ) (e : ℤ) → T (fits binary64 (fin false m e)) → Within (fin false m e) → Near (m * up e) (down e) (round binary64 false (m * up e * 2) (down e * 1))
-near m e f h =
-    let p = fits-parts false m e f in
-    let x = round binary64 false (m * up e * 2) (down e * 1) in
-    let pd : 0 < down e * 1 = mul-pos (down-pos e) (lit< tt) in
-    let t : m * up e * 2 ≤ 59998 * (down e * 1) = twice-le (m * up e) (down e) (29999 * down e) h refl in
-    let l : m * up e * 2 < 2 ^ 64 * (down e * 1) = lt-of-le-of-lt t (mul-lt-mul-of-pos-right (lit< tt) pd) in
-    let v = doubled m e (p .0) (p .1) h in
-    let n : toUnsigned 64 x ≡ m * up e * 2 / (down e * 1) = cut-value (m * up e * 2) (down e * 1) pd l x v in
+near : (m : ℕ) (exponent : ℤ) → T (fits binary64 (fin false m exponent)) → Within (fin false m exponent)
+    → Near (m * up exponent) (down exponent) (round binary64 false (m * up exponent * 2) (down exponent * 1))
+near m exponent f h =
+    let parts = fits-parts false m exponent f in
+    let x = round binary64 false (m * up exponent * 2) (down exponent * 1) in
+    let pd : 0 < down exponent * 1 = mul-pos (down-pos exponent) (lit< tt) in
+    let t : m * up exponent * 2 ≤ 59998 * (down exponent * 1) = twice-le (m * up exponent) (down exponent) (29999 * down exponent) h refl in
+    let l : m * up exponent * 2 < 2 ^ 64 * (down exponent * 1) = lt-of-le-of-lt t (mul-lt-mul-of-pos-right (lit< tt) pd) in
+    let v = doubled m exponent (parts .0) (parts .1) h in
+    let count : toUnsigned 64 x ≡ m * up exponent * 2 / (down exponent * 1) = cut-value (m * up exponent * 2) (down exponent * 1) pd l x v in
     record {
-      range = cut-range (m * up e * 2) (down e * 1) pd l x v;
-      short = le-trans (le-of-eq n) (div-le (m * up e * 2) (down e * 1) 59998 pd t);
-      whole = ap (λ (k : ℕ). (k + 1) / 2) n ∙ halved (m * up e) (down e) (down-pos e);
+      range = cut-range (m * up exponent * 2) (down exponent * 1) pd l x v;
+      short = le-trans (le-of-eq count) (div-le (m * up exponent * 2) (down exponent * 1) 59998 pd t);
+      whole = ap (λ (doubled : ℕ). (doubled + 1) / 2) count ∙ halved (m * up exponent) (down exponent) (down-pos exponent);
     }
   where
     div-le : (a d c : ℕ) → 0 < d → a ≤ c * d → a / d ≤ c
-    div-le a d c p h = le-of-mul-le-mul-right (le-trans (div-mul-le-self a d) h) p
+    div-le a d c positive h = le-of-mul-le-mul-right (le-trans (div-mul-le-self a d) h) positive
 
 -- ---- by the sign that the code's tests find: a y above 0
 abbrev pub nought : Float
@@ -199,33 +208,33 @@ nought = fin false 0 (pos 0)
 
 pub above : (y : Float) → T (fits binary64 y) → Within y → lt nought y ≡ true → Near (num y) (den y) (mul binary64 y (fin false 1 (pos 1))) × (rounded y ≡ pos (halfUp (num y) (den y)))
 unfolding mul lt
-above nan f h p = absurd h
-above (inf s) f h p = absurd h
-above (fin true m e) f h p = absurd (true≢false (sym p))
-above (fin false m e) f h p = (near m e f h, refl)
+above nan f h positive = absurd h
+above (inf sign) f h positive = absurd h
+above (fin true m exponent) f h positive = absurd (true≢false (sym positive))
+above (fin false m exponent) f h positive = (near m exponent f h, refl)
 
 -- a y below 0: -y is above 0 and in range, and y rounds to the negative of what -y rounds to
 pub record Below (y : Float) : Type 0 where
   pub ok : within (neg y) ≡ true
   pub over : lt nought (neg y) ≡ true
-  pub w : ℕ
-  pub short : w < 32768
-  pub size : rounded (neg y) ≡ pos w
-  pub is : rounded y ≡ negℤ (pos w)
+  pub whole : ℕ
+  pub short : whole < 32768
+  pub size : rounded (neg y) ≡ pos whole
+  pub is : rounded y ≡ negℤ (pos whole)
 
 pub below : (y : Float) → Within y → lt y nought ≡ true → Below y
 unfolding lt neg
-below nan h p = absurd h
-below (inf s) h p = absurd h
-below (fin false m e) h p = absurd (none (down e) (m * up e * 1) (ltb-true (m * up e * 1) (0 * down e) p))
+below nan h positive = absurd h
+below (inf sign) h positive = absurd h
+below (fin false m exponent) h positive = absurd (none (down exponent) (m * up exponent * 1) (ltb-true (m * up exponent * 1) (0 * down exponent) positive))
   where
     none : (d x : ℕ) → x < 0 * d → ⊥
     none d x h = omega arith
-below (fin true m e) h p = record {
-  ok = within-true (fin false m e) (le-trans h (mul-le-mul-right (down e) (lit≤ tt)));
-  over = lt-ltb (0 * down e) (m * up e * 1) (some (down e) (m * up e * 1) (ltb-true 0 (m * up e * 1 + 0 * down e) p));
-  w = halfUp (m * up e) (down e);
-  short = lt-of-le-of-lt (halfUp-range (m * up e) (down e) 19999 (down-pos e) h) (lit< tt);
+below (fin true m exponent) h positive = record {
+  ok = within-true (fin false m exponent) (le-trans h (mul-le-mul-right (down exponent) (lit≤ tt)));
+  over = lt-ltb (0 * down exponent) (m * up exponent * 1) (some (down exponent) (m * up exponent * 1) (ltb-true 0 (m * up exponent * 1 + 0 * down exponent) positive));
+  whole = halfUp (m * up exponent) (down exponent);
+  short = lt-of-le-of-lt (halfUp-range (m * up exponent) (down exponent) 19999 (down-pos exponent) h) (lit< tt);
   size = refl;
   is = refl;
 }
@@ -235,14 +244,16 @@ below (fin true m e) h p = record {
 
 -- neither: y is 0 or -0
 halfUp-zero : (a d : ℕ) → 0 < d → a * 1 ≤ 0 * d → halfUp a d ≡ 0
-halfUp-zero a d p h = div-eq-of-lt (omega arith)
+halfUp-zero a d positive h = div-eq-of-lt (omega arith)
 
 pub at-nought : (y : Float) → Within y → lt nought y ≡ false → lt y nought ≡ false → rounded y ≡ pos 0
 unfolding lt
-at-nought nan h p q = absurd h
-at-nought (inf s) h p q = absurd h
-at-nought (fin true m e) h p q = ap (λ (n : ℕ). negℤ (pos n)) (halfUp-zero (m * up e) (down e) (down-pos e) (none (m * up e * 1) (down e) (ltb-false 0 (m * up e * 1 + 0 * down e) q)))
+at-nought nan h positive q = absurd h
+at-nought (inf sign) h positive q = absurd h
+at-nought (fin true m exponent) h positive q =
+    ap (λ (count : ℕ). negℤ (pos count))
+    (halfUp-zero (m * up exponent) (down exponent) (down-pos exponent) (none (m * up exponent * 1) (down exponent) (ltb-false 0 (m * up exponent * 1 + 0 * down exponent) q)))
   where
     none : (x d : ℕ) → x + 0 * d ≤ 0 → x ≤ 0 * d
     none x d h = omega arith
-at-nought (fin false m e) h p q = ap pos (halfUp-zero (m * up e) (down e) (down-pos e) (ltb-false (0 * down e) (m * up e * 1) p))
+at-nought (fin false m exponent) h positive q = ap pos (halfUp-zero (m * up exponent) (down exponent) (down-pos exponent) (ltb-false (0 * down exponent) (m * up exponent * 1) positive))

@@ -1,4 +1,5 @@
 -- The order of floats. It is total but for NaN: `x < y` is `not (y ≤ x)`. So `kept`, which asks `≥` and `≤`, is the clamp that asks `<` and `>`, at every x that is no NaN.
+-- Assumes nothing.
 use mathlib.Core.Path.{_≡_, refl, sym, ap, _∙_}
 use Prim.Native.Nat.{ℕ, zero, suc, _+_, _*_}
 use native.Mathlib.Omega.{arith}
@@ -10,63 +11,65 @@ use Rattle.measure.specs.Filter.{lowest, highest, kept}
 use Rattle.measure.proofs.Number.{Number}
 
 -- ---- the tests of numbers
-eqb-sym : (a b : ℕ) → eqb a b ≡ eqb b a
+eqb-sym : (a other : ℕ) → eqb a other ≡ eqb other a
 eqb-sym zero zero = refl
-eqb-sym zero (suc b) = eqb·zero-suc b ∙ sym (eqb·suc-zero b)
+eqb-sym zero (suc other) = eqb·zero-suc other ∙ sym (eqb·suc-zero other)
 eqb-sym (suc a) zero = eqb·suc-zero a ∙ sym (eqb·zero-suc a)
-eqb-sym (suc a) (suc b) = eqb·suc-suc a b ∙ eqb-sym a b ∙ sym (eqb·suc-suc b a)
+eqb-sym (suc a) (suc other) = eqb·suc-suc a other ∙ eqb-sym a other ∙ sym (eqb·suc-suc other a)
 
-pub ltb-not : (a b : ℕ) → ltb a b ≡ not (leb b a)
+pub ltb-not : (a other : ℕ) → ltb a other ≡ not (leb other a)
 ltb-not a zero = leb·suc-zero a ∙ ap not (sym (leb·zero a))
-ltb-not zero (suc b) = leb·suc-suc 0 b ∙ leb·zero b ∙ ap not (sym (leb·suc-zero b))
-ltb-not (suc a) (suc b) = leb·suc-suc (suc a) b ∙ ltb-not a b ∙ ap not (sym (leb·suc-suc b a))
+ltb-not zero (suc other) = leb·suc-suc 0 other ∙ leb·zero other ∙ ap not (sym (leb·suc-zero other))
+ltb-not (suc a) (suc other) = leb·suc-suc (suc a) other ∙ ltb-not a other ∙ ap not (sym (leb·suc-suc other a))
 
 -- below or level, as the library has `≤` of two floats of one sign, is ≤ of their sizes; of two that are negative the level sizes are the other way round
-pub below-or-level : (a b : ℕ) → (ltb a b || (eqb a b && true)) ≡ leb a b
+pub below-or-level : (a other : ℕ) → (ltb a other || (eqb a other && true)) ≡ leb a other
 below-or-level zero zero = refl
-below-or-level zero (suc b) = simp (lt-ltb 0 (suc b) (omega arith), leb·zero (suc b))
+below-or-level zero (suc other) = simp (lt-ltb 0 (suc other) (omega arith), leb·zero (suc other))
 below-or-level (suc a) zero = simp (leb·suc-zero (suc a), eqb·suc-zero a, leb·suc-zero a)
-below-or-level (suc a) (suc b) = simp (leb·suc-suc (suc a) b, eqb·suc-suc a b, leb·suc-suc a b) (below-or-level a b)
+below-or-level (suc a) (suc other) = simp (leb·suc-suc (suc a) other, eqb·suc-suc a other, leb·suc-suc a other) (below-or-level a other)
 
-pub below-or-level-turned : (a b : ℕ) → (ltb a b || (eqb b a && true)) ≡ leb a b
-below-or-level-turned a b = ap (λ (x : Bool). ltb a b || (x && true)) (eqb-sym b a) ∙ below-or-level a b
+pub below-or-level-turned : (a other : ℕ) → (ltb a other || (eqb other a && true)) ≡ leb a other
+below-or-level-turned a other = ap (λ (x : Bool). ltb a other || (x && true)) (eqb-sym other a) ∙ below-or-level a other
 
 -- ---- a negative float against one that is not, each way round
-cross : (a b : ℕ) → ltb 0 (a + b) ≡ not (eqb b a && eqb b 0)
+cross : (a other : ℕ) → ltb 0 (a + other) ≡ not (eqb other a && eqb other 0)
 cross zero zero = refl
 cross (suc a) zero = simp (lt-ltb 0 (suc a + 0) (omega arith), eqb·zero-suc a)
-cross a (suc b) = simp (lt-ltb 0 (a + suc b) (omega arith), eqb·suc-zero b, and-false (eqb (suc b) a))
+cross a (suc other) = simp (lt-ltb 0 (a + suc other) (omega arith), eqb·suc-zero other, and-false (eqb (suc other) a))
 
-crossed : (a b : ℕ) → false ≡ not (ltb 0 (a + b) || (eqb a b && eqb a 0))
+crossed : (a other : ℕ) → false ≡ not (ltb 0 (a + other) || (eqb a other && eqb a 0))
 crossed zero zero = refl
-crossed zero (suc b) = simp (lt-ltb 0 (0 + suc b) (omega arith))
-crossed (suc a) b = simp (lt-ltb 0 (suc a + b) (omega arith))
+crossed zero (suc other) = simp (lt-ltb 0 (0 + suc other) (omega arith))
+crossed (suc a) other = simp (lt-ltb 0 (suc a + other) (omega arith))
 
 pub lt-not-le : (x y : Float) → Number x → Number y → lt x y ≡ not (le y x)
 unfolding lt le
-lt-not-le nan y p q = absurd p
-lt-not-le (inf s) nan p q = absurd q
-lt-not-le (inf true) (inf true) p q = refl
-lt-not-le (inf true) (inf false) p q = refl
-lt-not-le (inf false) (inf true) p q = refl
-lt-not-le (inf false) (inf false) p q = refl
-lt-not-le (inf true) (fin t n d) p q = refl
-lt-not-le (inf false) (fin t n d) p q = refl
-lt-not-le (fin s m e) nan p q = absurd q
-lt-not-le (fin s m e) (inf true) p q = refl
-lt-not-le (fin s m e) (inf false) p q = refl
-lt-not-le (fin false m e) (fin false n d) p q = ltb-not (m * up e * down d) (n * up d * down e) ∙ ap not (sym (below-or-level (n * up d * down e) (m * up e * down d)))
-lt-not-le (fin false m e) (fin true n d) p q = crossed (n * up d * down e) (m * up e * down d)
-lt-not-le (fin true m e) (fin false n d) p q = cross (m * up e * down d) (n * up d * down e)
-lt-not-le (fin true m e) (fin true n d) p q = ltb-not (n * up d * down e) (m * up e * down d) ∙ ap not (sym (below-or-level-turned (m * up e * down d) (n * up d * down e)))
+lt-not-le nan y known q = absurd known
+lt-not-le (inf sign) nan known q = absurd q
+lt-not-le (inf true) (inf true) known q = refl
+lt-not-le (inf true) (inf false) known q = refl
+lt-not-le (inf false) (inf true) known q = refl
+lt-not-le (inf false) (inf false) known q = refl
+lt-not-le (inf true) (fin t size d) known q = refl
+lt-not-le (inf false) (fin t size d) known q = refl
+lt-not-le (fin sign m exponent) nan known q = absurd q
+lt-not-le (fin sign m exponent) (inf true) known q = refl
+lt-not-le (fin sign m exponent) (inf false) known q = refl
+lt-not-le (fin false m exponent) (fin false size d) known q =
+    ltb-not (m * up exponent * down d) (size * up d * down exponent) ∙ ap not (sym (below-or-level (size * up d * down exponent) (m * up exponent * down d)))
+lt-not-le (fin false m exponent) (fin true size d) known q = crossed (size * up d * down exponent) (m * up exponent * down d)
+lt-not-le (fin true m exponent) (fin false size d) known q = cross (m * up exponent * down d) (size * up d * down exponent)
+lt-not-le (fin true m exponent) (fin true size d) known q =
+    ltb-not (size * up d * down exponent) (m * up exponent * down d) ∙ ap not (sym (below-or-level-turned (m * up exponent * down d) (size * up d * down exponent)))
 
 -- ---- the clamp by `<` and `>`
 pub kept-clamp : (x : Float) → Number x → kept x ≡ cond (lt x lowest) lowest (cond (lt highest x) highest x)
 unfolding kept
 kept-clamp x h = simp (lt-not-le x lowest h tt, lt-not-le highest x tt h) (turn (le lowest x) (le x highest) lowest highest x)
   where
-    turn : (a b : Bool) (l u x : Float) → cond a (cond b x u) l ≡ cond (not a) l (cond (not b) u x)
-    turn true true l u x = refl
-    turn true false l u x = refl
-    turn false true l u x = refl
-    turn false false l u x = refl
+    turn : (a other : Bool) (l upper x : Float) → cond a (cond other x upper) l ≡ cond (not a) l (cond (not other) upper x)
+    turn true true l upper x = refl
+    turn true false l upper x = refl
+    turn false true l upper x = refl
+    turn false false l upper x = refl

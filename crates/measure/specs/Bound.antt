@@ -13,20 +13,20 @@ abbrev pub end : Bool → ℕ
 end true = 19999
 end false = 29999
 
--- the whole value x of y = ±a / d is ±w, within half of 1 of y: 2 × |w × d − a| ≤ d, and at a half the w that is further from zero; it is in
--- the range
-pub record Close (s : Bool) (a d : ℕ) (x : Whole) : Type 0 where
-  pub w : ℕ
-  pub is : x ≡ Whole.Value (signed s w)
-  pub not-over : 2 * (w * d) ≤ 2 * a + d
-  pub not-under : 2 * a < 2 * (w * d) + d
-  pub in-range : w ≤ end s
+-- the whole value x of y = ±a / d is ±whole, within half of 1 of y: 2 × |whole × d − a| ≤ d, and at a half the one that is further from
+-- zero; it is in the range
+pub record Close (sign : Bool) (a d : ℕ) (x : Whole) : Type 0 where
+  pub whole : ℕ
+  pub is : x ≡ Whole.Value (signed sign whole)
+  pub not-over : 2 * (whole * d) ≤ 2 * a + d
+  pub not-under : 2 * a < 2 * (whole * d) + d
+  pub in-range : whole ≤ end sign
 
--- of a finite y, of sign s and size m * up e / down e, that lies within the range
+-- of a finite y, of a sign and a size m * up exponent / down exponent, that lies within the range
 abbrev pub CloseTo : Float → Whole → Type 0
 CloseTo nan x = Unit {0}
-CloseTo (inf s) x = Unit {0}
-CloseTo (fin s m e) x = within (fin s m e) ≡ true → Close s (m * up e) (down e) x
+CloseTo (inf sign) x = Unit {0}
+CloseTo (fin sign m exponent) x = within (fin sign m exponent) ≡ true → Close sign (m * up exponent) (down exponent) x
 
 -- of a measured value
 abbrev pub Near : Measured → Whole → Type 0

@@ -1,4 +1,5 @@
 -- The measured value of document 01, in the order of its words. A float is one of IEEE 754 as the library has it, with each operation rounded once.
+-- Assumes nothing.
 use Prim.Native.Nat.{ℕ, _+_, _*_, _/_}
 use mathlib.Core.Bool.{Bool, true, false, cond, _&&_, _||_}
 use lib.Dec.{eqb}
@@ -50,19 +51,19 @@ firstOf (Reading.Value v) = Measured.Value (ofInt binary64 v)
 unfoldable pub within : Float → Bool
 within y = le lowest y && le y highest
 
--- a / b to the nearest whole number, a half up
+-- a / d to the nearest whole number, a half up
 abbrev pub halfUp : ℕ → ℕ → ℕ
-halfUp a b = (2 * a + b) / (2 * b)
+halfUp a d = (2 * a + d) / (2 * d)
 
 abbrev pub signed : Bool → ℕ → ℤ
-signed true n = negℤ (pos n)
-signed false n = pos n
+signed true size = negℤ (pos size)
+signed false size = pos size
 
--- "y to the nearest whole number, halves away from zero": of a sign s and a size m * up e / down e
+-- "y to the nearest whole number, halves away from zero": of a sign and a size m * up exponent / down exponent
 abbrev pub rounded : Float → ℤ
 rounded nan = pos 0
-rounded (inf s) = pos 0
-rounded (fin s m e) = signed s (halfUp (m * up e) (down e))
+rounded (inf sign) = pos 0
+rounded (fin sign m exponent) = signed sign (halfUp (m * up exponent) (down exponent))
 
 -- the same, and 0 where y is not within the range
 unfoldable pub nearest : Float → ℤ

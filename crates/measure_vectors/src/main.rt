@@ -28,11 +28,11 @@ fn hex(line: &[u8; 57], from: usize, to: usize) -> u64 {
 
 // The whole number of a sign and a size of four hexadecimal digits.
 fn signed(sign: u8, size: u64) -> i32 {
-    let n = (size % 65536) as i32;
+    let number = (size % 65536) as i32;
     if sign == b'-' {
-        return -n;
+        return -number;
     }
-    n
+    number
 }
 
 // The float of a bit pattern; 0 where that is a NaN's.
@@ -61,25 +61,25 @@ fn holds(m: Measured, bits: u64) -> bool {
     }
 }
 
-// Whether the measured whole value is `n`.
-fn shows(m: Measured, n: i32) -> bool {
+// Whether the measured whole value is `number`.
+fn shows(m: Measured, number: i32) -> bool {
     match measure::whole_value(m) {
         Whole::Nothing => false,
-        Whole::Value(w) => w as f64 == n as f64,
+        Whole::Value(whole) => whole as f64 == number as f64,
     }
 }
 
 // Whether the vector of a line comes out as it stands there.
 fn agrees(line: &[u8; 57]) -> bool {
     let m = Measured::Value(float(hex(line, 0, 16)));
-    let r = Reading::Value(signed(line[23], hex(line, 24, 28)));
+    let reading = Reading::Value(signed(line[23], hex(line, 24, 28)));
     let f = (hex(line, 29, 33) % 65536) as u16;
-    let next = measure::after(m, r, f);
+    let next = measure::after(m, reading, f);
     shows(m, signed(line[17], hex(line, 18, 22)))
         && holds(next, hex(line, 34, 50))
         && shows(next, signed(line[51], hex(line, 52, 56)))
         && measure::sound(next)
-        && !measure::outside(r)
+        && !measure::outside(reading)
 }
 
 // Whether there is a next line, and it agrees.

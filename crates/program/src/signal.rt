@@ -1,33 +1,44 @@
-// The time signals.
+// The time signals, and what is shown of a position.
 ghost use mathlib.Core.Path.{_≡_};
-ghost use Rattle.program.specs.Program.{signalOf, signalsOf};
-use crate::Position;
-use crate::Signals;
-use crate::ramp::in_run;
-use crate::time::entry;
-use bank::Step;
+ghost use Rattle.position.specs.Program.{signalOf, signalsOf, shownOf};
+use crate::place::entry;
+use position::Here;
+use position::Position;
+use position::Shown;
+use position::Signals;
 use setting::Settings;
 
 // Whether a time signal of number j is on.
-fn on(set: Settings, p: Position, j: u8) -> bool
-    ensures { λ r. ⌜ r ≡ signalOf set p j ⌝ }
+fn on(settings: Settings, position: Position, j: u8) -> bool
+    ensures { λ r. ⌜ r ≡ signalOf settings position j ⌝ }
 {
-    let ons = set.on;
-    let offs = set.off;
-    let minute = p.elapsed / 60;
+    let ons = settings.on;
+    let offs = settings.off;
+    let minute = position.elapsed / 60;
     let while_on = (entry(ons, j) as u32 <= minute) & (minute < entry(offs, j) as u32);
-    in_run(p) & ((j == 5) | while_on)
+    let is_active = (position.mode == 1) | (position.mode == 2);
+    is_active & ((j == 5) | while_on)
 }
 
 // The four time signals.
-pub fn signals(set: Settings, s: Step, p: Position) -> Signals
-    ensures { λ r. ⌜ r ≡ signalsOf set s p ⌝ }
+fn signals(settings: Settings, here: Here, position: Position) -> Signals
+    ensures { λ r. ⌜ r ≡ signalsOf settings here position ⌝ }
 {
-    let js = s.signals;
+    let js = here.signals;
     Signals {
-        first: on(set, p, js[0]),
-        second: on(set, p, js[1]),
-        third: on(set, p, js[2]),
-        fourth: on(set, p, js[3]),
+        first: on(settings, position, js[0]),
+        second: on(settings, position, js[1]),
+        third: on(settings, position, js[2]),
+        fourth: on(settings, position, js[3]),
+    }
+}
+
+// The set value and the signals.
+pub fn shown(settings: Settings, here: Here, position: Position) -> Shown
+    ensures { λ r. ⌜ r ≡ shownOf settings here position ⌝ }
+{
+    Shown {
+        value: ramp::set_value(here, position),
+        signals: signals(settings, here, position),
     }
 }

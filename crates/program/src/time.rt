@@ -1,106 +1,75 @@
 // A second of a running step, and next.
 ghost use mathlib.Core.Path.{_≡_};
-ghost use Rattle.program.specs.Program.{numbered, waitOf, inZoneOf, secondOf, leavesOf, limitOf, nextOf, endedOf, tickOf};
-use crate::Here;
-use crate::Position;
-use crate::ramp::endless;
-use crate::ramp::seconds;
-use crate::ramp::set_value;
-use crate::temps::distance;
-use bank::Step;
+ghost use Rattle.position.specs.Program.{pastOf, inZoneOf, secondPosition, leavesOf, endPosition, nextPosition, tickPosition};
+ghost use Rattle.position.specs.Command.{feedPosition};
 use measure::Whole;
-use setting::Settings;
+use position::Here;
+use position::Position;
 
-// Entry i of four, counted from 1; 0 for any other number.
-pub fn entry(xs: [u16; 4], i: u8) -> u16
-    ensures { λ r. ⌜ r ≡ numbered xs i ⌝ }
+// Whether a measured whole value is at or past the target, seen from base b.
+fn past(b: i16, target: i16, value: Whole) -> bool
+    ensures { λ r. ⌜ r ≡ pastOf b target value ⌝ }
 {
-    if i == 0 {
-        return 0;
-    }
-    if 4 < i {
-        return 0;
-    }
-    xs[i as usize - 1]
-}
-
-// W, in seconds.
-pub fn wait_seconds(set: Settings, s: Step) -> u32
-    ensures { λ r. ⌜ r ≡ waitOf set s ⌝ }
-{
-    let minutes = set.waits;
-    60 * entry(minutes, s.wait) as u32
-}
-
-// Whether the measured whole value is in the step's zone, seen from the base.
-fn in_zone(set: Settings, s: Step, b: i16, v: Whole) -> bool
-    ensures { λ r. ⌜ r ≡ inZoneOf set s b v ⌝ }
-{
-    let Whole::Value(x) = v else {
+    let Whole::Value(v) = value else {
         return false;
     };
-    let zones = set.zones;
-    let zone = entry(zones, s.wait);
-    if zone != 0 {
-        return distance(x, s.target) <= zone as u32;
+    if b <= target {
+        return target <= v;
     }
-    if b <= s.target {
-        return s.target <= x;
+    v <= target
+}
+
+// Whether a measured whole value is in the step's zone, seen from base b.
+fn in_zone(here: Here, b: i16, value: Whole) -> bool
+    ensures { λ r. ⌜ r ≡ inZoneOf here b value ⌝ }
+{
+    if here.zone == 0 {
+        return past(b, here.target, value);
     }
-    x <= s.target
+    ramp::near(here.zone, here.target, value)
 }
 
 // A second of the step: its time, or its wait.
-fn second(s: Step, mut p: Position) -> Position
-    ensures { λ r. ⌜ r ≡ secondOf s p ⌝ }
+fn second(here: Here, mut position: Position) -> Position
+    ensures { λ r. ⌜ r ≡ secondPosition here position ⌝ }
 {
-    if endless(s) {
-        p.elapsed = if p.elapsed < 359999 {
-            p.elapsed + 1
+    if here.endless {
+        position.elapsed = if position.elapsed < 359999 {
+            position.elapsed + 1
         } else {
             359999
         };
-        return p;
+        return position;
     }
-    if p.elapsed < seconds(s) {
-        p.elapsed = p.elapsed + 1;
-        return p;
+    if position.elapsed < here.time {
+        position.elapsed = position.elapsed + 1;
+        return position;
     }
-    p.waited = if p.waited < 4294967295 {
-        p.waited + 1
+    position.waited = if position.waited < 4294967295 {
+        position.waited + 1
     } else {
         4294967295
     };
-    p
+    position
 }
 
 // Whether the step is over.
-fn leaves(set: Settings, s: Step, v: Whole, p: Position) -> bool
-    ensures { λ r. ⌜ r ≡ leavesOf set s v p ⌝ }
+fn leaves(here: Here, value: Whole, position: Position) -> bool
+    ensures { λ r. ⌜ r ≡ leavesOf here value position ⌝ }
 {
-    let free = (s.wait == 0) | (in_zone(set, s, p.base, v) | (wait_seconds(set, s) <= p.waited));
-    !endless(s) & ((p.elapsed == seconds(s)) & free)
-}
-
-// The limit of passes: runs, or 9,999 for 0.
-pub fn limit(runs: u8) -> u16
-    ensures { λ r. ⌜ r ≡ limitOf runs ⌝ }
-{
-    if runs == 0 {
-        return 9999;
-    }
-    runs as u16
+    let waited = in_zone(here, position.base, value) | (here.wait <= position.waited);
+    !here.endless & ((position.elapsed == here.time) & ((here.number == 0) | waited))
 }
 
 // Mode 3.
-pub fn ended(p: Position) -> Position
-    ensures { λ r. ⌜ r ≡ endedOf p ⌝ }
+fn ended(position: Position) -> Position
+    ensures { λ r. ⌜ r ≡ endPosition position ⌝ }
 {
     Position {
         mode: 3,
-        pattern: p.pattern,
-        step: p.step,
-        pass: p.pass,
+        pattern: position.pattern,
+        step: position.step,
+        pass: position.pass,
         elapsed: 0,
         waited: 0,
         base: 0,
@@ -108,37 +77,45 @@ pub fn ended(p: Position) -> Position
 }
 
 // The next step, the next pass, or the end.
-pub fn next(h: Here, mut p: Position) -> Position
-    ensures { λ r. ⌜ r ≡ nextOf h p ⌝ }
+fn next(here: Here, mut position: Position) -> Position
+    ensures { λ r. ⌜ r ≡ nextPosition here position ⌝ }
 {
-    let s = h.step;
-    let b = set_value(s, p);
-    if p.step < h.last {
-        p.step = p.step + 1;
+    let value = ramp::set_value(here, position);
+    if position.step < here.count {
+        position.step = position.step + 1;
     } else {
-        if h.limit <= p.pass {
-            return ended(p);
+        if here.limit <= position.pass {
+            return ended(position);
         }
-        p.pass = p.pass + 1;
-        p.step = 1;
+        position.pass = position.pass + 1;
+        position.step = 1;
     }
-    p.base = b;
-    p.elapsed = 0;
-    p.waited = 0;
-    p
+    position.base = value;
+    position.elapsed = 0;
+    position.waited = 0;
+    position
 }
 
 // The position's part of a tick.
-pub fn tick(set: Settings, h: Here, v: Whole, p: Position) -> Position
-    ensures { λ r. ⌜ r ≡ tickOf set h v p ⌝ }
+pub fn tick(here: Here, value: Whole, position: Position) -> Position
+    ensures { λ r. ⌜ r ≡ tickPosition here value position ⌝ }
 {
-    if p.mode != 1 {
-        return p;
+    if position.mode != 1 {
+        return position;
     }
-    let s = h.step;
-    let q = second(s, p);
-    if leaves(set, s, v, q) {
-        return next(h, q);
+    let after = second(here, position);
+    if leaves(here, value, after) {
+        return next(here, after);
     }
-    q
+    after
+}
+
+// Feed: next; mode 3 if endless.
+pub fn feed(here: Here, position: Position) -> Position
+    ensures { λ r. ⌜ r ≡ feedPosition here position ⌝ }
+{
+    if here.endless {
+        return ended(position);
+    }
+    next(here, position)
 }

@@ -1,24 +1,16 @@
--- What a refusal carries.
+-- A bit of a weight, and the four signals, as numbers of few bits.
 -- Assumes nothing.
-use mathlib.Core.Path.{_≡_, refl, sym}
-use mathlib.Core.Bool.{false, false≢true}
-use Rattle.controller.specs.declared.Answer.{Answer}
-use Rattle.controller.specs.Replay.{isAccepted}
-use Rattle.result.specs.Result.{carried}
+use Prim.Native.Nat.{ℕ, _<_, _≤_}
+use mathlib.Core.Bool.{Bool, true, false, cond}
+use native.Mathlib.Omega.{arith}
+use Rattle.position.specs.declared.Signals.{Signals}
+use Rattle.calls.specs.Result.{signalBits}
 
--- a refusal carries nothing above bit 31
-pub carried-nothing : (a : Answer) → isAccepted a ≡ false → carried a ≡ 0
-unfolding carried isAccepted
-carried-nothing (Answer.Accepted v signals) h = absurd (false≢true (sym h))
-carried-nothing (Answer.Bank found) h = refl
-carried-nothing Answer.Unsound h = refl
-carried-nothing Answer.Buffer h = refl
-carried-nothing Answer.PowerOff h = refl
-carried-nothing Answer.PowerOn h = refl
-carried-nothing Answer.Outside h = refl
-carried-nothing Answer.NoPattern h = refl
-carried-nothing Answer.WrongMode h = refl
-carried-nothing Answer.NoStep h = refl
-carried-nothing Answer.NoValue h = refl
-carried-nothing Answer.Stuck h = refl
-carried-nothing Answer.Unreadable h = refl
+pub weighs : (on : Bool) (weight : ℕ) → cond on weight 0 ≤ weight
+weighs true weight = omega arith
+weighs false weight = omega arith
+
+pub four-bits : (signals : Signals) → signalBits signals < 16
+unfolding signalBits
+four-bits signals =
+    omega (arith, weighs (signals .first) 1, weighs (signals .second) 2, weighs (signals .third) 4, weighs (signals .fourth) 8)

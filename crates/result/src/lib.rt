@@ -1,22 +1,24 @@
 // A result of the library as one number: the document's number, its two values, the set value and the four signals.
 ghost use mathlib.Core.Path.{_≡_};
 ghost use mathlib.Core.Bool.{cond};
-ghost use Prim.Native.Nat.{_+_, _*_, _<_, _≤_};
+ghost use Prim.Native.Nat.{_+_, _*_};
 ghost use Rattle.setting.specs.Found.{numbersOf as bankNumbers};
+ghost use Rattle.plain.specs.declared.Answer.{Answer};
 ghost use Rattle.writer.specs.Write.{writtenNumbers};
-ghost use Rattle.result.specs.Result.{packed, signalBits, resultOf};
+ghost use Rattle.calls.specs.Result.{packed, signalBits, resultOf};
 use answer::Numbers;
-use controller::Answer;
 use field::bits;
-use program::Signals;
+use plain::Answer;
+use position::Shown;
+use position::Signals;
 use setting::Checked;
 use writer::Written;
 
 // A number and its values.
-fn packed_of(n: Numbers) -> u64
-    ensures { λ r. ⌜ r ≡ n .number + 256 * n .first + 16777216 * n .second ⌝ }
+fn packed_of(numbers: Numbers) -> u64
+    ensures { λ r. ⌜ r ≡ numbers .number + 256 * numbers .first + 16777216 * numbers .second ⌝ }
 {
-    n.number as u64 + 256 * (n.first as u64) + 16777216 * (n.second as u64)
+    numbers.number as u64 + 256 * (numbers.first as u64) + 16777216 * (numbers.second as u64)
 }
 
 // What the check of a bank finds.
@@ -27,11 +29,11 @@ pub fn of_checked(found: Checked) -> u64
 }
 
 // What writing a bank gives.
-pub fn of_written(w: Written) -> u64
-    ensures { λ r. ⌜ r ≡ packed (writtenNumbers w) ⌝ }
+pub fn of_written(written: Written) -> u64
+    ensures { λ r. ⌜ r ≡ packed (writtenNumbers written) ⌝ }
 {
-    match w {
-        Written::Length(n) => 256 * (n as u64),
+    match written {
+        Written::Length(length) => 256 * (length as u64),
         Written::Refused(found) => of_checked(found),
         Written::Full => 15,
     }
@@ -39,24 +41,33 @@ pub fn of_written(w: Written) -> u64
 
 // A bit of a weight, if it is set.
 fn bit(on: bool, weight: u64) -> u64
-    ensures { λ r. ⌜ (r ≡ cond on weight 0) × (r ≤ weight) ⌝ }
+    ensures { λ r. ⌜ r ≡ cond on weight 0 ⌝ }
 {
     if on { weight } else { 0 }
 }
 
 // The four signals as four bits.
-fn signal_bits(s: Signals) -> u64
-    ensures { λ r. ⌜ (r ≡ signalBits s) × (r < 16) ⌝ }
+fn signal_bits(signals: Signals) -> u64
+    ensures { λ r. ⌜ r ≡ signalBits signals ⌝ }
 {
-    bit(s.first, 1) + bit(s.second, 2) + bit(s.third, 4) + bit(s.fourth, 8)
+    bit(signals.first, 1) + bit(signals.second, 2) + bit(signals.third, 4) + bit(signals.fourth, 8)
 }
 
-// An answer: set value and signals if it is accepted.
-pub fn of_answer(a: Answer) -> u64
-    ensures { λ r. ⌜ r ≡ resultOf a ⌝ }
+// What is shown: the set value above bit 31, the signals above bit 47.
+fn of_shown(shown: Shown) -> u64
+    ensures { λ r. ⌜ r ≡ resultOf (Answer.Accepted shown) ⌝ }
 {
-    if let Answer::Accepted(v, signals) = a {
-        return 4294967296 * (bits(v) as u64) + 281474976710656 * signal_bits(signals);
+    let signals = shown.signals;
+    4294967296 * (bits(shown.value) as u64) + 281474976710656 * signal_bits(signals)
+}
+
+// An answer: what is shown if it is accepted.
+pub fn of_answer(answer: Answer) -> u64
+    ensures { λ r. ⌜ r ≡ resultOf answer ⌝ }
+{
+    match answer {
+        Answer::Accepted(shown) => of_shown(shown),
+        Answer::Bank(found) => of_checked(found),
+        Answer::Refused(_) => answer::number(answer) as u64,
     }
-    packed_of(answer::of_answer(a))
 }

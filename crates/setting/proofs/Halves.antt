@@ -20,7 +20,7 @@ pub halves-more : (top top′ at : ℕ) (xs ys : List ℕ) (j : ℕ) → j < len
     → restHalves top top′ at xs ys j
     ≡ test (leb (getD xs j 0) top) (Setting at) (test (leb (getD ys j 0) top′) (Setting (at + 2)) (restHalves top top′ (at + 4) xs ys (j + 1)))
 unfolding restHalves halvesFound
-halves-more top top′ at xs ys j h k = rw (drop-cons xs j 0 h, drop-cons ys j 0 k, add-one)
+halves-more top top′ at xs ys j h there = rw (drop-cons xs j 0 h, drop-cons ys j 0 there, add-one)
 
 pub halves-end : (top top′ at : ℕ) (xs ys : List ℕ) (j : ℕ) → length xs ≤ j → restHalves top top′ at xs ys j ≡ Accepted
 unfolding restHalves halvesFound

@@ -25,11 +25,11 @@ use Rattle.setting.proofs.Checked.{the-type}
 use borrow.Author.Tests.{not-true, not-false, leb-true, le-leb}
 
 -- `if !f(..)`: what the call ensures of its result, and what the test says of it
-pub refused : {r t : Bool} → r ≡ t → not r ≡ true → t ≡ false
-refused {r} e h = sym e ∙ not-true r h
+pub refused : {result t : Bool} → result ≡ t → not result ≡ true → t ≡ false
+refused {result} same h = sym same ∙ not-true result h
 
-pub passed : {r t : Bool} → r ≡ t → not r ≡ false → t ≡ true
-passed {r} e h = sym e ∙ not-false r h
+pub passed : {result t : Bool} → result ≡ t → not result ≡ false → t ≡ true
+passed {result} same h = sym same ∙ not-false result h
 
 -- a signed local is its bits, and what a call is handed is read from them
 pub bits : {z : ℤ} → mag z < 32768 → toZ w16 (ofZ w16 z) ≡ z
@@ -40,81 +40,81 @@ pub within-bits : {low x high : ℤ} → SFits w16 low → SFits w16 x → SFits
 within-bits {low} {x} {high} l m h = λ i. within (toZ-ofZ l i) (toZ-ofZ m i) (toZ-ofZ h i)
 
 -- a chain of tests, one test at a time: it holds and the chain goes on, or it ends the chain
-pub on : {a b : Bool} → a ≡ true → both a b ≡ b
+pub on : {a other : Bool} → a ≡ true → both a other ≡ other
 unfolding both
-on e = rw e
+on same = rw same
 
-pub off : {a : Bool} (b : Bool) → a ≡ false → both a b ≡ false
+pub off : {a : Bool} (other : Bool) → a ≡ false → both a other ≡ false
 unfolding both
-off b e = rw e
+off other same = rw same
 
-pub right : {a : Bool} (w : Checked) {n : Checked} → a ≡ true → test a w n ≡ n
+pub right : {a : Bool} (refusal : Checked) {rest : Checked} → a ≡ true → test a refusal rest ≡ rest
 unfolding test
-right w e = rw e
+right refusal same = rw same
 
-pub wrong : {a : Bool} {w : Checked} (n : Checked) → a ≡ false → test a w n ≡ w
+pub wrong : {a : Bool} {refusal : Checked} (rest : Checked) → a ≡ false → test a refusal rest ≡ refusal
 unfolding test
-wrong n e = rw e
+wrong rest same = rw same
 
 -- what is not accepted is refused
-pub is-accepted : (r : Checked) → isAccepted r ≡ true → r ≡ Accepted
-is-accepted Accepted e = refl
-is-accepted Short e = absurd (false≢true e)
-is-accepted (Setting o) e = absurd (false≢true e)
-is-accepted (Pair i) e = absurd (false≢true e)
-is-accepted (Body p k) e = absurd (false≢true e)
+pub is-accepted : (found : Checked) → isAccepted found ≡ true → found ≡ Accepted
+is-accepted Accepted same = refl
+is-accepted Short same = absurd (false≢true same)
+is-accepted (Setting o) same = absurd (false≢true same)
+is-accepted (Pair i) same = absurd (false≢true same)
+is-accepted (Body p k) same = absurd (false≢true same)
 
-pub not-accepted : (r : Checked) → isAccepted r ≡ false → r ≡ Accepted → ⊥
-not-accepted r e h = true≢false (sym (ap isAccepted h) ∙ e)
+pub not-accepted : (found : Checked) → isAccepted found ≡ false → found ≡ Accepted → ⊥
+not-accepted found same h = true≢false (sym (ap isAccepted h) ∙ same)
 
 -- a `match` knows of an enum in an arm that its tag is one of the arm's
-pub is-refused : (r : Checked) → OneOf (1 ∷ 2 ∷ 3 ∷ 4 ∷ []) (tagOf the-type r) → isAccepted r ≡ false
-is-refused Accepted h = absurd (⊎-elim (λ e. omega arith) (⊎-elim (λ e. omega arith) (⊎-elim (λ e. omega arith) (λ e. omega arith))) h)
+pub is-refused : (found : Checked) → OneOf (1 ∷ 2 ∷ 3 ∷ 4 ∷ []) (tagOf the-type found) → isAccepted found ≡ false
+is-refused Accepted h = absurd (⊎-elim (λ same. omega arith) (⊎-elim (λ same. omega arith) (⊎-elim (λ same. omega arith) (λ same. omega arith))) h)
 is-refused Short h = refl
 is-refused (Setting o) h = refl
 is-refused (Pair i) h = refl
 is-refused (Body p k) h = refl
 
-pub accepted : (r : Checked) → OneOf (0 ∷ []) (tagOf the-type r) → r ≡ Accepted
+pub accepted : (found : Checked) → OneOf (0 ∷ []) (tagOf the-type found) → found ≡ Accepted
 accepted Accepted h = refl
 accepted Short h = absurd (omega arith)
 accepted (Setting o) h = absurd (omega arith)
 accepted (Pair i) h = absurd (omega arith)
 accepted (Body p k) h = absurd (omega arith)
 
-pub unless-accepted : {A : Type 0} {r : Checked} (w : Checked → A) (n : A) → r ≡ Accepted → unless r w n ≡ n
-unless-accepted {r} w n e = ap (λ (t : Bool). cond t n (w r)) (ap isAccepted e)
+pub unless-accepted : {A : Type 0} {found : Checked} (refusal : Checked → A) (rest : A) → found ≡ Accepted → unless found refusal rest ≡ rest
+unless-accepted {found} refusal rest same = ap (λ (t : Bool). cond t rest (refusal found)) (ap isAccepted same)
 
-pub unless-refused : {A : Type 0} {r : Checked} (w : Checked → A) (n : A) → isAccepted r ≡ false → unless r w n ≡ w r
-unless-refused {r} w n e = ap (λ (t : Bool). cond t n (w r)) e
+pub unless-refused : {A : Type 0} {found : Checked} (refusal : Checked → A) (rest : A) → isAccepted found ≡ false → unless found refusal rest ≡ refusal found
+unless-refused {found} refusal rest same = ap (λ (t : Bool). cond t rest (refusal found)) same
 
 -- by the arm of a `match` that is not Accepted's
-pub unless-told : {A : Type 0} (r : Checked) (w : Checked → A) (n : A) → OneOf (1 ∷ 2 ∷ 3 ∷ 4 ∷ []) (tagOf the-type r) → unless r w n ≡ w r
-unless-told r w n h = unless-refused w n (is-refused r h)
+pub unless-told : {A : Type 0} (found : Checked) (refusal : Checked → A) (rest : A) → OneOf (1 ∷ 2 ∷ 3 ∷ 4 ∷ []) (tagOf the-type found) → unless found refusal rest ≡ refusal found
+unless-told found refusal rest h = unless-refused refusal rest (is-refused found h)
 
-pub next : {r n : Checked} → r ≡ Accepted → then r n ≡ n
+pub next : {found rest : Checked} → found ≡ Accepted → then found rest ≡ rest
 unfolding then
-next {r} {n} e = unless-accepted (λ f. f) n e
+next {found} {rest} same = unless-accepted (λ f. f) rest same
 
 -- what is found first, by another name
-pub first-is : {r r′ : Checked} (n : Checked) → r ≡ r′ → then r n ≡ then r′ n
-first-is n e = ap (λ (x : Checked). then x n) e
+pub first-is : {found found′ : Checked} (rest : Checked) → found ≡ found′ → then found rest ≡ then found′ rest
+first-is rest same = ap (λ (x : Checked). then x rest) same
 
-pub then-holds : (r n : Checked) → then r n ≡ Accepted → (r ≡ Accepted) × (n ≡ Accepted)
+pub then-holds : (found rest : Checked) → then found rest ≡ Accepted → (found ≡ Accepted) × (rest ≡ Accepted)
 unfolding then
-then-holds r n e = go (isAccepted r) refl
+then-holds found rest same = go (isAccepted found) refl
   where
-    go : (t : Bool) → isAccepted r ≡ t → (r ≡ Accepted) × (n ≡ Accepted)
-    go true h = let a = is-accepted r h in (a, sym (next a) ∙ e)
-    go false h = absurd (not-accepted r h (sym (unless-refused (λ f. f) n h) ∙ e))
+    go : (t : Bool) → isAccepted found ≡ t → (found ≡ Accepted) × (rest ≡ Accepted)
+    go true h = let a = is-accepted found h in (a, sym (next a) ∙ same)
+    go false h = absurd (not-accepted found h (sym (unless-refused (λ f. f) rest h) ∙ same))
 
 -- a callee's answer ends the chain, or lets it go on
-pub ends : {r r′ : Checked} (n : Checked) → r ≡ r′ → OneOf (1 ∷ 2 ∷ 3 ∷ 4 ∷ []) (tagOf the-type r) → then r′ n ≡ r
+pub ends : {found found′ : Checked} (rest : Checked) → found ≡ found′ → OneOf (1 ∷ 2 ∷ 3 ∷ 4 ∷ []) (tagOf the-type found) → then found′ rest ≡ found
 unfolding then
-ends {r} n e h = ap (λ (x : Checked). then x n) (sym e) ∙ unless-told r (λ f. f) n h
+ends {found} rest same h = ap (λ (x : Checked). then x rest) (sym same) ∙ unless-told found (λ f. f) rest h
 
-pub goes : {r r′ n : Checked} → r ≡ r′ → OneOf (0 ∷ []) (tagOf the-type r) → then r′ n ≡ n
-goes {r} e h = next (sym e ∙ accepted r h)
+pub goes : {found found′ rest : Checked} → found ≡ found′ → OneOf (0 ∷ []) (tagOf the-type found) → then found′ rest ≡ rest
+goes {found} same h = next (sym same ∙ accepted found h)
 
 -- a chain of settings, one at a time
 first-kept : (o : ℕ) (xs : List (ℕ × Bool)) → firstOf (Setting o) xs ≡ Setting o
@@ -124,63 +124,63 @@ first-kept o (x ∷ xs) = first-kept o xs
 
 pub first-on : (o : ℕ) (xs : List (ℕ × Bool)) {t : Bool} → t ≡ true → firstOf Accepted ((o, t) ∷ xs) ≡ firstOf Accepted xs
 unfolding firstOf then test
-first-on o xs e = rw e
+first-on o xs same = rw same
 
 pub first-off : (o : ℕ) (xs : List (ℕ × Bool)) {t : Bool} → t ≡ false → firstOf Accepted ((o, t) ∷ xs) ≡ Setting o
 unfolding firstOf then test
-first-off o xs e = rw e (first-kept o xs)
+first-off o xs same = rw same (first-kept o xs)
 
-pub to : (x n : ℕ) {t : Bool} → leb x n ≡ t → between 0 x n ≡ t
+pub to : (x top : ℕ) {t : Bool} → leb x top ≡ t → between 0 x top ≡ t
 unfolding between
-to x n e = on (le-leb 0 x (omega arith)) ∙ e
+to x top same = on (le-leb 0 x (omega arith)) ∙ same
 
-pub stop : (p k : ℕ) (n : Checked) → then (Body p k) n ≡ Body p k
+pub stop : (p k : ℕ) (rest : Checked) → then (Body p k) rest ≡ Body p k
 unfolding then
-stop p k n = refl
+stop p k rest = refl
 
 -- the code's `&` is the definitions' `both`
-pub both-and : (a b : Bool) → both a b ≡ (a && b)
+pub both-and : (a other : Bool) → both a other ≡ (a && other)
 unfolding both
-both-and true b = refl
-both-and false b = refl
+both-and true other = refl
+both-and false other = refl
 
 -- both tests of a pair that holds hold
-pub both-left : (a b : Bool) → both a b ≡ true → a ≡ true
+pub both-left : (a other : Bool) → both a other ≡ true → a ≡ true
 unfolding both
-both-left true b e = refl
-both-left false b e = absurd (false≢true e)
+both-left true other same = refl
+both-left false other same = absurd (false≢true same)
 
-pub both-right : (a b : Bool) → both a b ≡ true → b ≡ true
+pub both-right : (a other : Bool) → both a other ≡ true → other ≡ true
 unfolding both
-both-right true b e = e
-both-right false b e = absurd (false≢true e)
+both-right true other same = same
+both-right false other same = absurd (false≢true same)
 
 -- where nothing wrong is found in the end, nothing was found before
-pub first-left : (r : Checked) (xs : List (ℕ × Bool)) → firstOf r xs ≡ Accepted → r ≡ Accepted
+pub first-left : (found : Checked) (xs : List (ℕ × Bool)) → firstOf found xs ≡ Accepted → found ≡ Accepted
 unfolding firstOf
-first-left r [] e = e
-first-left r (x ∷ xs) e = then-holds r _ (first-left _ xs e) .0
+first-left found [] same = same
+first-left found (x ∷ xs) same = then-holds found _ (first-left _ xs same) .0
 
 test-right : (t : Bool) (o : ℕ) → then Accepted (test t (Setting o) Accepted) ≡ Accepted → t ≡ true
 unfolding then test
-test-right true o e = refl
-test-right false o e = let z : _≡_ {A = ℕ} 0 1 = cc in absurd (omega arith)
+test-right true o same = refl
+test-right false o same = let z : _≡_ {A = ℕ} 0 1 = cc in absurd (omega arith)
 
 pub first-right : (x : ℕ × Bool) (xs : List (ℕ × Bool)) → firstOf Accepted (x ∷ xs) ≡ Accepted → x .1 ≡ true
 unfolding firstOf
-first-right x xs e = test-right (x .1) (x .0) (first-left _ xs e)
+first-right x xs same = test-right (x .1) (x .0) (first-left _ xs same)
 
 -- of right settings, the number of patterns is 1 to 15
-pub head-count : (s : Settings) → headFound s ≡ Accepted → (1 ≤ s .patterns) × (s .patterns ≤ 15)
+pub head-count : (settings : Settings) → headFound settings ≡ Accepted → (1 ≤ settings .patterns) × (settings .patterns ≤ 15)
 unfolding headFound between
-head-count s e =
-    let n = s .patterns in
-    let t = first-right (0, between 1 n 15) _ e in
+head-count settings same =
+    let n = settings .patterns in
+    let t = first-right (0, between 1 n 15) _ same in
     (leb-true 1 n (both-left _ (leb n 15) t), leb-true n 15 (both-right (leb 1 n) _ t))
 
-pub settings-count : (s : Settings) → settingsFound s ≡ Accepted → (1 ≤ s .patterns) × (s .patterns ≤ 15)
+pub settings-count : (settings : Settings) → settingsFound settings ≡ Accepted → (1 ≤ settings .patterns) × (settings .patterns ≤ 15)
 unfolding settingsFound
-settings-count s e = head-count s (then-holds (headFound s) _ e .0)
+settings-count settings same = head-count settings (then-holds (headFound settings) _ same .0)
 
 -- the document's numbers tell the cases apart
 told : List ℕ → Checked
@@ -190,7 +190,7 @@ told xs =
     (cond (eqb (getD xs 0 0) 13) (Pair (getD xs 1 0))
     (cond (eqb (getD xs 0 0) 14) (Body (getD xs 1 0) (getD xs 2 0)) Accepted)))
 
-told-numbers : (r : Checked) → told (numbersOf r) ≡ r
+told-numbers : (found : Checked) → told (numbersOf found) ≡ found
 unfolding numbersOf told
 told-numbers Accepted = refl
 told-numbers Short = refl
@@ -198,5 +198,5 @@ told-numbers (Setting o) = refl
 told-numbers (Pair i) = refl
 told-numbers (Body p k) = refl
 
-pub numbers-tell : (r r′ : Checked) → numbersOf r ≡ numbersOf r′ → r ≡ r′
-numbers-tell r r′ e = sym (told-numbers r) ∙ ap told e ∙ told-numbers r′
+pub numbers-tell : (found found′ : Checked) → numbersOf found ≡ numbersOf found′ → found ≡ found′
+numbers-tell found found′ same = sym (told-numbers found) ∙ ap told same ∙ told-numbers found′

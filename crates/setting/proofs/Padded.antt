@@ -13,26 +13,26 @@ use Rattle.setting.specs.Setting.{settingsAt}
 use Rattle.field.specs.Tab.{tab}
 
 -- settings are what the first 45 bytes say
-pub settings-padded : (a b : List ℕ) → ((j : ℕ) → j < 45 → getD a j 0 ≡ getD b j 0) → settingsAt a ≡ settingsAt b
+pub settings-padded : (a other : List ℕ) → ((j : ℕ) → j < 45 → getD a j 0 ≡ getD other j 0) → settingsAt a ≡ settingsAt other
 unfolding settingsAt signedField tab
-settings-padded a b same =
-    λ k. record {
-      patterns = at 1 0 (omega arith) k;
-      start = at 1 1 (omega arith) k;
-      outage = at 1 2 (omega arith) k;
-      low = toZ w16 (at 2 3 (omega arith) k);
-      high = toZ w16 (at 2 5 (omega arith) k);
-      initial = toZ w16 (at 2 7 (omega arith) k);
-      width = at 2 9 (omega arith) k;
-      filter = at 2 11 (omega arith) k;
-      zones = four 13 (omega arith) k;
-      waits = four 15 (omega arith) k;
-      on = four 29 (omega arith) k;
-      off = four 31 (omega arith) k;
+settings-padded a other same =
+    λ along. record {
+      patterns = at 1 0 (omega arith) along;
+      start = at 1 1 (omega arith) along;
+      outage = at 1 2 (omega arith) along;
+      low = toZ w16 (at 2 3 (omega arith) along);
+      high = toZ w16 (at 2 5 (omega arith) along);
+      initial = toZ w16 (at 2 7 (omega arith) along);
+      width = at 2 9 (omega arith) along;
+      filter = at 2 11 (omega arith) along;
+      zones = four 13 (omega arith) along;
+      waits = four 15 (omega arith) along;
+      on = four 29 (omega arith) along;
+      off = four 31 (omega arith) along;
     }
   where
-    at : (w i : ℕ) → i + w ≤ 45 → field w a i ≡ field w b i
-    at w i h = field-same w a b i i (λ k l. same (i + k) (omega arith))
+    at : (width i : ℕ) → i + width ≤ 45 → field width a i ≡ field width other i
+    at width i h = field-same width a other i i (λ index l. same (i + index) (omega arith))
 
-    four : (i : ℕ) → i + 14 ≤ 45 → tab (field 2 a) 4 i 4 ≡ tab (field 2 b) 4 i 4
-    four i h = λ k. at 2 i (omega arith) k ∷ at 2 (i + 4) (omega arith) k ∷ at 2 (i + 4 + 4) (omega arith) k ∷ at 2 (i + 4 + 4 + 4) (omega arith) k ∷ []
+    four : (i : ℕ) → i + 14 ≤ 45 → tab (field 2 a) 4 i 4 ≡ tab (field 2 other) 4 i 4
+    four i h = λ along. at 2 i (omega arith) along ∷ at 2 (i + 4) (omega arith) along ∷ at 2 (i + 4 + 4) (omega arith) along ∷ at 2 (i + 4 + 4 + 4) (omega arith) along ∷ []

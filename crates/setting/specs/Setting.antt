@@ -17,19 +17,19 @@ use Rattle.setting.specs.declared.Checked.the-variants.{Accepted, Short,
 
 -- the settings, by their offsets
 unfoldable pub settingsAt : List ℕ → Settings
-settingsAt b = record {
-  patterns = field 1 b 0;
-  start = field 1 b 1;
-  outage = field 1 b 2;
-  low = signedField w16 b 3;
-  high = signedField w16 b 5;
-  initial = signedField w16 b 7;
-  width = field 2 b 9;
-  filter = field 2 b 11;
-  zones = tab (field 2 b) 4 13 4;
-  waits = tab (field 2 b) 4 15 4;
-  on = tab (field 2 b) 4 29 4;
-  off = tab (field 2 b) 4 31 4;
+settingsAt bank = record {
+  patterns = field 1 bank 0;
+  start = field 1 bank 1;
+  outage = field 1 bank 2;
+  low = signedField w16 bank 3;
+  high = signedField w16 bank 5;
+  initial = signedField w16 bank 7;
+  width = field 2 bank 9;
+  filter = field 2 bank 11;
+  zones = tab (field 2 bank) 4 13 4;
+  waits = tab (field 2 bank) 4 15 4;
+  on = tab (field 2 bank) 4 29 4;
+  off = tab (field 2 bank) 4 31 4;
 }
 
 -- ---- 12: the settings, by offset
@@ -41,19 +41,19 @@ firstOf found (x ∷ xs) = firstOf (then found (test (x .1) (Setting (x .0)) Acc
 
 -- n, start, outage choice, SLL, SLH, start value, outage width, filter constant
 abbrev pub headRows : Settings → List (ℕ × Bool)
-headRows s =
-    (0, between 1 (s .patterns) 15)
-    ∷ (1, between 0 (s .start) 1)
-    ∷ (2, between 0 (s .outage) 2)
-    ∷ (3, temperature (s .low))
-    ∷ (5, both (temperature (s .high)) (ltZ (s .low) (s .high)))
-    ∷ (7, within (s .low) (s .initial) (s .high))
-    ∷ (9, between 0 (s .width) 29999)
-    ∷ (11, between 0 (s .filter) 999)
+headRows settings =
+    (0, between 1 (settings .patterns) 15)
+    ∷ (1, between 0 (settings .start) 1)
+    ∷ (2, between 0 (settings .outage) 2)
+    ∷ (3, temperature (settings .low))
+    ∷ (5, both (temperature (settings .high)) (ltZ (settings .low) (settings .high)))
+    ∷ (7, within (settings .low) (settings .initial) (settings .high))
+    ∷ (9, between 0 (settings .width) 29999)
+    ∷ (11, between 0 (settings .filter) 999)
     ∷ []
 
 unfoldable pub headFound : Settings → Checked
-headFound s = firstOf Accepted (headRows s)
+headFound settings = firstOf Accepted (headRows settings)
 
 -- pairs from an offset on, four bytes each, with the largest number of either half
 unfoldable pub halvesFound : ℕ → ℕ → ℕ → List ℕ → List ℕ → Checked
@@ -64,10 +64,10 @@ halvesFound top top′ at (x ∷ xs) (y ∷ ys) =
 
 -- then wait zone and wait minutes from 13 on, on minute and off minute from 29 on
 unfoldable pub settingsFound : Settings → Checked
-settingsFound s =
-    then (headFound s) (then (halvesFound 9999 5999 13 (s .zones) (s .waits)) (halvesFound 5999 5999 29 (s .on) (s .off)))
+settingsFound settings =
+    then (headFound settings) (then (halvesFound 9999 5999 13 (settings .zones) (settings .waits)) (halvesFound 5999 5999 29 (settings .on) (settings .off)))
 
 -- ---- 11: fewer than 45 bytes, and 12, of the settings of a bank
 
 unfoldable pub settingsIn : List ℕ → Checked
-settingsIn b = test (leb 45 (length b)) Short (settingsFound (settingsAt b))
+settingsIn bank = test (leb 45 (length bank)) Short (settingsFound (settingsAt bank))

@@ -9,31 +9,31 @@ use crate::range::is_above;
 use crate::range::is_temperature;
 
 // The settings up to the filter constant.
-fn check_head(s: Settings) -> Checked
-    ensures { λ r. ⌜ r ≡ headFound s ⌝ }
+fn check_head(settings: Settings) -> Checked
+    ensures { λ result. ⌜ result ≡ headFound settings ⌝ }
 {
-    if !((1 <= s.patterns) & (s.patterns <= 15)) {
+    if !((1 <= settings.patterns) & (settings.patterns <= 15)) {
         return Checked::Setting(0);
     }
-    if 1 < s.start {
+    if 1 < settings.start {
         return Checked::Setting(1);
     }
-    if 2 < s.outage {
+    if 2 < settings.outage {
         return Checked::Setting(2);
     }
-    if !is_temperature(s.low) {
+    if !is_temperature(settings.low) {
         return Checked::Setting(3);
     }
-    if !is_above(s.low, s.high) {
+    if !is_above(settings.low, settings.high) {
         return Checked::Setting(5);
     }
-    if !in_limits(s.low, s.initial, s.high) {
+    if !in_limits(settings.low, settings.initial, settings.high) {
         return Checked::Setting(7);
     }
-    if 29999 < s.width {
+    if 29999 < settings.width {
         return Checked::Setting(9);
     }
-    if 999 < s.filter {
+    if 999 < settings.filter {
         return Checked::Setting(11);
     }
     Checked::Accepted
@@ -42,7 +42,7 @@ fn check_head(s: Settings) -> Checked
 // Four pairs from an offset on, with the largest number of either half.
 fn check_halves(at: u16, xs: [u16; 4], top: u16, ys: [u16; 4], other: u16) -> Checked
     requires { ⌜ at < 1000 ⌝ }
-    ensures { λ r. ⌜ r ≡ halvesFound top other at xs ys ⌝ }
+    ensures { λ result. ⌜ result ≡ halvesFound top other at xs ys ⌝ }
 {
     let mut j: usize = 0;
     let mut offset = at;
@@ -60,20 +60,20 @@ fn check_halves(at: u16, xs: [u16; 4], top: u16, ys: [u16; 4], other: u16) -> Ch
 }
 
 // The first wrong one of settings.
-pub fn check(s: Settings) -> Checked
-    ensures { λ r. ⌜ r ≡ settingsFound s ⌝ }
+pub fn check(settings: Settings) -> Checked
+    ensures { λ result. ⌜ result ≡ settingsFound settings ⌝ }
 {
-    let head = check_head(s);
+    let head = check_head(settings);
     let Checked::Accepted = head else {
         return head;
     };
-    let zones = s.zones;
-    let waits = s.waits;
+    let zones = settings.zones;
+    let waits = settings.waits;
     let waiting = check_halves(13, zones, 9999, waits, 5999);
     let Checked::Accepted = waiting else {
         return waiting;
     };
-    let on = s.on;
-    let off = s.off;
+    let on = settings.on;
+    let off = settings.off;
     check_halves(29, on, 5999, off, 5999)
 }

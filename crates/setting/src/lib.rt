@@ -38,15 +38,15 @@ pub struct Settings {
 }
 
 // The first wrong one of settings.
-pub fn check_settings(s: Settings) -> Checked
-    ensures { λ r. ⌜ numbersOf r ≡ numbersOf (settingsFound s) ⌝ }
+pub fn check_settings(settings: Settings) -> Checked
+    ensures { λ result. ⌜ numbersOf result ≡ numbersOf (settingsFound settings) ⌝ }
 {
-    judging::check(s)
+    judging::check(settings)
 }
 
 // The first wrong one of the settings of a bank, if it has all of them.
 pub fn check_settings_in(bank: &[u8]) -> Checked
-    ensures { λ r. ⌜ numbersOf r ≡ numbersOf (settingsIn (now (bank .entry))) ⌝ }
+    ensures { λ result. ⌜ numbersOf result ≡ numbersOf (settingsIn (now (bank .entry))) ⌝ }
 {
     if bank.len() < 45 {
         return Checked::Short;

@@ -4,21 +4,21 @@ ghost use lib.Signed.{ltZ};
 ghost use Rattle.setting.specs.Range.{both, within, temperature};
 
 pub fn in_limits(low: i16, x: i16, high: i16) -> bool
-    ensures { λ r. ⌜ r ≡ within low x high ⌝ }
+    ensures { λ result. ⌜ result ≡ within low x high ⌝ }
 {
     (low <= x) & (x <= high)
 }
 
 // Whether a temperature is in the temperature range.
 pub fn is_temperature(x: i16) -> bool
-    ensures { λ r. ⌜ r ≡ temperature x ⌝ }
+    ensures { λ result. ⌜ result ≡ temperature x ⌝ }
 {
     (-19999 <= x) & (x <= 29999)
 }
 
 // Whether the upper limit is a temperature above the lower.
 pub fn is_above(low: i16, high: i16) -> bool
-    ensures { λ r. ⌜ r ≡ both (temperature high) (ltZ low high) ⌝ }
+    ensures { λ result. ⌜ result ≡ both (temperature high) (ltZ low high) ⌝ }
 {
     is_temperature(high) & (low < high)
 }

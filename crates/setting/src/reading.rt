@@ -12,7 +12,7 @@ use field::signed_of;
 // The settings of a bank that has all of them.
 pub fn settings_in(bank: &[u8]) -> Settings
     requires { ⌜ 45 ≤ length (now bank) ⌝ }
-    ensures { λ r. ⌜ r ≡ settingsAt (now (bank .entry)) ⌝ }
+    ensures { λ result. ⌜ result ≡ settingsAt (now (bank .entry)) ⌝ }
 {
     let zones = four_words(bank, 13);
     let waits = four_words(bank, 15);
@@ -36,7 +36,7 @@ pub fn settings_in(bank: &[u8]) -> Settings
 
 // The settings that stand in a bank.
 pub fn read_settings(bank: &[u8]) -> Settings
-    ensures { λ r. ⌜ r ≡ settingsAt (now (bank .entry)) ⌝ }
+    ensures { λ result. ⌜ result ≡ settingsAt (now (bank .entry)) ⌝ }
 {
     if 45 <= bank.len() {
         return settings_in(bank);

@@ -3,30 +3,46 @@
 use mathlib.Core.Path.{refl}
 use lib.Ieee.{add, sub, mul, div, ofInt, le, toBits}
 use Rattle.field.specs.Field.{num, field, digits, stored, signedField}
-use Rattle.field.specs.Row.{row, rowAt, storedRow}
+use Rattle.field.specs.Row.{row, rowAt, total, storedRow}
 use Rattle.field.specs.Tab.{tab}
-use Rattle.bank.specs.Capacity.{capacityOf}
 use Rattle.setting.specs.Found.{numbersOf as bankNumbers, test, then}
-use Rattle.setting.specs.Setting.{firstOf, headFound, halvesFound, settingsFound, settingsIn}
+use Rattle.setting.specs.Range.{both as bothIn, between, within, temperature}
+use Rattle.setting.specs.Setting.{settingsAt, firstOf, headFound, halvesFound, settingsFound, settingsIn}
+use Rattle.bank.specs.Capacity.{capacityOf}
 use Rattle.bank.specs.Check.{pairRight, pairsFrom, pairsFound, signalsRight, stepRight, stepsFound, bodiesFound, ofLength, foundIn}
-use Rattle.setting.specs.Range.{both, between, within, temperature}
-use Rattle.setting.specs.Setting.{settingsAt}
-use Rattle.bank.specs.View.{stepAt, patternAt, patternsOf, noPattern, noStep, numbered as entry, patternOf, stepOf}
+use Rattle.bank.specs.View.{stepAt, patternAt, patternsOf, noPattern, noStep, numbered as entry, patternOf, stepOf, placeOf}
 use Rattle.writer.specs.Encode.{paired, stepsBytes, bodiesBytes, pairsBytes, encode}
 use Rattle.measure.specs.Filter.{lagged, kept, afterOf, firstOf as firstReading, within as inRange, nearest, wholeOf, soundOf, outsideOf}
-use Rattle.program.specs.Program.{either, zeroZ, apart, numbered as ordinal, secondsOf, endlessOf, waitOf, active, toward, rampOf, setValueOf, inZoneOf, secondOf, leavesOf, limitOf, nextOf, tickOf, signalOf, signalsOf}
-use Rattle.moves.specs.Moves.{takesOf, startBaseOf, pausedOf, feedOf, backOf, plusOf, minusOf, nearOf, returnedOf, timesRight, cleared, readableOf}
-use Rattle.checkpoint.specs.Record.{creditWidths, encodeOf, decodeOf, sized}
-use Rattle.controller.specs.Demand.{setValueIn}
-use Rattle.controller.specs.Event.{numbersOf, recordOf, nothing, dark, broughtBack, returnOff, eventOn, eventOff, eventPast, eventOf, makeOf, eventsFrom}
-use Rattle.controller.specs.Plain.{hereOf, acceptedAt, fresh, soundState, credited, tickedOf, tickSaves, tickRan, startFrom, shiftedTo, doneBy, selectable, pressRan, returnedTo}
-use Rattle.key.specs.Line.{areDigits, readOn, unsigned, negated, numberOf, keyOf, isOnly, select, tick, return, tickOf as tickLine, returnOf, valued, askedBy}
+use Rattle.position.specs.Tests.{either, all, zeroZ, apart, numbered as ordinal}
+use Rattle.position.specs.Program.{limitOf, hereOf, active, toward, rampOf, setValueOf, nearOf, pastOf, inZoneOf, secondPosition, leavesOf}
+use Rattle.position.specs.Program.{nextPosition, tickPosition, signalOf, signalsOf, shownOf}
+use Rattle.position.specs.Command.{takesOf, selectsOf, isStart, isValue, valueOf, startBase, lacksValue, stuckOf, commandPosition}
+use Rattle.position.specs.Return.{goesOn, returnPosition, timesRight, clearedOf, readableOf}
+use Rattle.plain.specs.Answer.{numberOf as refusalNumber, numbersOf}
+use Rattle.plain.specs.Event.{fresh, darkRun, dark, cutEffect, broughtBack, retainedIn, knownEffect, eventEffect, eventOutcome, makeOutcome}
+use Rattle.plain.specs.Record.{widthsOf, numbersIn, creditWidths, recordOf, positionIn, creditsIn, sized}
+use Rattle.plain.specs.Refusals.{soundState}
+use Rattle.plain.specs.Run.{soundBy, cooked, credited, measuring, counting, stepping, tickBy, tickCredit, tickSaves, returnBy}
+use Rattle.plain.specs.Setup.{hereIn}
+use Rattle.key.specs.Line.{areDigits, readOn, unsigned, negated, numberOf, keyOf, isOnly, tick, return, tickOf, returnOf, valued, askedBy}
 use Rattle.decimal.specs.Text.{decimal, text, lineOf}
-use Rattle.line.specs.Part.{ended, printed}
-use Rattle.line.specs.Sheet.{linesFrom, nextLine, answersTo, allOf, sheetText}
-use Rattle.line.specs.Text.{eight, refusal, showing, asked, answeredTo}
+use Rattle.line.specs.Sheet.{linesFrom, nextLine, answersTo, made, allOf, sheetText}
+use Rattle.line.specs.Text.{eight, refusal, showing, askedFor, answeredTo}
 use Rattle.starred.specs.Table.{bytes, table, Holds}
 
+-- every definition that the table reaches
 pub starred : Holds table
-unfolding add sub mul div ofInt le toBits num field digits stored signedField row rowAt storedRow tab capacityOf bankNumbers test then firstOf headFound halvesFound settingsFound settingsIn pairRight pairsFrom pairsFound signalsRight stepRight stepsFound bodiesFound ofLength foundIn both between within temperature settingsAt stepAt patternAt patternsOf noPattern noStep entry patternOf stepOf paired stepsBytes bodiesBytes pairsBytes encode lagged kept afterOf firstReading inRange nearest wholeOf soundOf outsideOf either zeroZ apart ordinal secondsOf endlessOf waitOf active toward rampOf setValueOf inZoneOf secondOf leavesOf limitOf nextOf tickOf signalOf signalsOf takesOf startBaseOf pausedOf feedOf backOf plusOf minusOf nearOf returnedOf timesRight cleared readableOf creditWidths encodeOf decodeOf sized setValueIn numbersOf recordOf nothing dark broughtBack returnOff eventOn eventOff eventPast eventOf makeOf eventsFrom hereOf acceptedAt fresh soundState credited tickedOf tickSaves tickRan startFrom shiftedTo doneBy selectable pressRan returnedTo areDigits readOn unsigned negated numberOf keyOf isOnly select tick return tickLine returnOf valued askedBy decimal text lineOf ended printed linesFrom nextLine answersTo allOf sheetText eight refusal showing asked answeredTo bytes
+unfolding add sub mul div ofInt le toBits num field digits stored signedField row rowAt total storedRow tab bankNumbers test then
+    bothIn between within temperature settingsAt firstOf headFound halvesFound settingsFound settingsIn
+    capacityOf pairRight pairsFrom pairsFound signalsRight stepRight stepsFound bodiesFound ofLength foundIn
+    stepAt patternAt patternsOf noPattern noStep entry patternOf stepOf placeOf paired stepsBytes bodiesBytes pairsBytes encode
+    lagged kept afterOf firstReading inRange nearest wholeOf soundOf outsideOf either all zeroZ apart ordinal
+    limitOf hereOf active toward rampOf setValueOf nearOf pastOf inZoneOf secondPosition leavesOf
+    nextPosition tickPosition signalOf signalsOf shownOf takesOf selectsOf isStart isValue valueOf startBase lacksValue stuckOf commandPosition
+    goesOn returnPosition timesRight clearedOf readableOf refusalNumber numbersOf
+    fresh darkRun dark cutEffect broughtBack retainedIn knownEffect eventEffect eventOutcome makeOutcome
+    widthsOf numbersIn creditWidths recordOf positionIn creditsIn sized soundState
+    soundBy cooked credited measuring counting stepping tickBy tickCredit tickSaves returnBy hereIn
+    areDigits readOn unsigned negated numberOf keyOf isOnly tick return tickOf returnOf valued askedBy decimal text lineOf
+    linesFrom nextLine answersTo made allOf sheetText eight refusal showing askedFor answeredTo bytes
 starred = (refl, (refl, (refl, (refl, (refl, (refl, (refl, tt)))))))

@@ -18,7 +18,8 @@ use Rattle.measure.specs.Filter.{afterOf, wholeOf}
 use Rattle.measure.specs.declared.Measured.{Measured}
 use Rattle.measure.specs.declared.Reading.{Reading}
 use Rattle.measure.specs.declared.Whole.{Whole}
-use Rattle.program.specs.Program.{rampOf}
+use Rattle.position.specs.Program.{hereOf, rampOf}
+use Rattle.plain.specs.Setup.{Setup, over}
 use Rattle.line.specs.Sheet.{sheetText, allOf}
 
 -- the bytes of a text
@@ -43,7 +44,7 @@ bitsOf (Measured.Value y) = pos (toBits binary64 y)
 
 -- the whole value that is shown
 abbrev pub shown : Measured → ℤ
-shown m = number (wholeOf m)
+shown measured = number (wholeOf measured)
   where
     number : Whole → ℤ
     number Whole.Nothing = pos 0
@@ -70,8 +71,12 @@ settings = record {
 abbrev pub pattern : Pattern
 pattern = record { runs = 1; count = 2; steps = plainStep (pos 600) 2 ∷ plainStep (pos 600) 1 ∷ [] }
 
-abbrev pub bank : List ℕ
-bank = encode settings (pattern ∷ [])
+abbrev pub setup : Setup
+setup = over (encode settings (pattern ∷ []))
+
+-- the set value over a ramp: b, target, minutes, e
+abbrev pub ramp : ℤ → ℤ → ℕ → ℕ → ℤ
+ramp b target minutes e = rampOf (hereOf settings (record { step = plainStep target minutes; runs = 1; count = 1 })) b e
 
 -- "Input S, T 200, C, R 200, T 200", a line each
 abbrev pub input : List ℕ
@@ -88,19 +93,19 @@ table =
     (pos (capacityOf 1) ∷ pos (capacityOf 12) ∷ pos (capacityOf 15) ∷ [], pos 99 ∷ pos 8 ∷ pos 6 ∷ [])
     -- b 200, target 600, T 120: e 59 → 396, e 60 → 400, e 119 → 596
     ∷ (
-      rampOf (plainStep (pos 600) 2) (pos 200) 59 ∷ rampOf (plainStep (pos 600) 2) (pos 200) 60 ∷ rampOf (plainStep (pos 600) 2) (pos 200) 119 ∷ [],
+      ramp (pos 200) (pos 600) 2 59 ∷ ramp (pos 200) (pos 600) 2 60 ∷ ramp (pos 200) (pos 600) 2 119 ∷ [],
       pos 396 ∷ pos 400 ∷ pos 596 ∷ [],
     )
     -- b 600, target 200, T 60, e 1 → 594
-    ∷ (rampOf (plainStep (pos 200) 1) (pos 600) 1 ∷ [], pos 594 ∷ [])
+    ∷ (ramp (pos 600) (pos 200) 1 1 ∷ [], pos 594 ∷ [])
     -- F 10: y 100, v 200 → 150, to the bit
     ∷ (bitsOf (lagFrom (pos 100) (pos 200)) ∷ [], bitsOf (Measured.Value (ofInt binary64 (pos 150))) ∷ [])
     -- y 100, v 101 → 101 shown; y −100, v −101 → −101 shown
     ∷ (shown (lagFrom (pos 100) (pos 101)) ∷ shown (lagFrom (negsuc 99) (negsuc 100)) ∷ [], pos 101 ∷ negsuc 100 ∷ [])
     -- the program `sheet`: the five lines in, and the five lines out
-    ∷ (map pos (sheetText bank input), map pos printed)
+    ∷ (map pos (sheetText setup input), map pos printed)
     -- "Credit of step 1 is then 1"
-    ∷ (pos (getD (allOf bank input .state .credits) 0 0) ∷ [], pos 1 ∷ [])
+    ∷ (pos (getD (allOf setup input .state .credits) 0 0) ∷ [], pos 1 ∷ [])
     ∷ []
 
 -- every row holds

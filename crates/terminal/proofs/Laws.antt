@@ -8,59 +8,70 @@ use borrow.Author.Tests.{le-leb}
 use lib.ListN.{length, replicate}
 use Rattle.setting.specs.Found.{isAccepted}
 use Rattle.bank.specs.Check.{foundIn}
-use Rattle.line.specs.Part.{Sheet, partOf, endOf, After, after, found, leaving, runOf, finishOf, startOf, noText}
+use Rattle.plain.specs.Setup.{Setup}
+use Rattle.controller.specs.Holds.{stateOf}
 use Rattle.line.specs.declared.Between.{Between}
+use Rattle.line.specs.declared.Ran.{Ran}
+use Rattle.line.specs.Part.{Sheet, partOf, endOf, After, after, found, leaving, runOf, finishOf, startOf, noText}
 use Rattle.line.proofs.Laws.{part-append}
 use Rattle.line.proofs.Whole.{part-bare, end-bare, start-leaves, all-input}
 use Rattle.terminal.specs.Input.{Part, Whole, All}
 
 -- ---- what a call of `line` leaves
 
-left-by : (r : Between) {d out′ : List ℕ} {end : ℕ} (y : Sheet) (out : List ℕ) → after r d out′ end ≡ leaving y out → found r d ≡ noText y
-left-by r y out e = ap (λ (a : After). record { state = a .state; store = a .store; line = a .line; text = [] }) e
+left-by : (ran : Ran) {store out′ : List ℕ} (sheet : Sheet) (out : List ℕ) → after ran store out′ ≡ leaving sheet out → found (ran .between) store ≡ noText sheet
+left-by ran sheet out h = ap (λ (left : After). record { state = left .state; store = left .store; line = left .line; text = [] }) h
 
-pub ran : (b : List ℕ) (x : Sheet) (cs out : List ℕ) (r : Between) {d out′ : List ℕ} {end : ℕ} → 168 * length cs ≤ length out → after r d out′ end ≡ runOf b x cs out → Part b x (found r d)
-unfolding runOf
-ran b x cs out r h e = record { input = cs; is = left-by r (partOf b x cs) out (e ∙ rw (le-leb (168 * length cs) (length out) h)) }
+module _ (setup : Setup) (sheet : Sheet) where
+  pub ran-part : (cs out : List ℕ) (ran : Ran) {store out′ : List ℕ} → 168 * length cs ≤ length out → after ran store out′ ≡ runOf setup sheet cs out
+      → Part setup sheet (found (ran .between) store)
+  unfolding runOf
+  ran-part cs out ran h g =
+      record { input = cs; is = left-by ran (partOf setup sheet cs) out (g ∙ rw (le-leb (168 * length cs) (length out) h)) }
 
-pub finished : (b : List ℕ) (x : Sheet) (out : List ℕ) (r : Between) {d out′ : List ℕ} {end : ℕ} → 168 ≤ length out → after r d out′ end ≡ finishOf b x out → Whole b x (found r d)
-unfolding finishOf partOf
-finished b x out r h e = record { input = []; is = left-by r (endOf b x) out (e ∙ rw (le-leb 168 (length out) h)) }
+  pub finished : (out : List ℕ) (ran : Ran) {store out′ : List ℕ} → 168 ≤ length out → after ran store out′ ≡ finishOf setup sheet out
+      → Whole setup sheet (found (ran .between) store)
+  unfolding finishOf partOf
+  finished out ran h g = record { input = []; is = left-by ran (endOf setup sheet) out (g ∙ rw (le-leb 168 (length out) h)) }
 
 -- ---- one behind the other
 
-module _ (b : List ℕ) {x y z : Sheet} (p : Part b x y) where
-  pub part-part : Part b y z → Part b x z
-  part-part q =
+module _ (setup : Setup) {before middle left : Sheet} (part : Part setup before middle) where
+  pub part-part : Part setup middle left → Part setup before left
+  part-part next =
+      let sheet = partOf setup before (part .input) in
       record {
-        input = p .input ++ q .input;
-        is = q .is ∙ ap (λ (u : Sheet). noText (partOf b u (q .input))) (p .is) ∙ part-bare b (partOf b x (p .input)) (q .input)
-            ∙ ap (λ (u : Sheet). noText u) (sym (part-append b x (p .input) (q .input)));
+        input = part .input ++ next .input;
+        is = next .is ∙ ap (λ (x : Sheet). noText (partOf setup x (next .input))) (part .is) ∙ part-bare setup sheet (next .input)
+            ∙ ap (λ (x : Sheet). noText x) (sym (part-append setup before (part .input) (next .input)));
       }
 
-  pub part-end : Whole b y z → Whole b x z
-  part-end q =
-      let u = partOf b x (p .input) in
+  pub part-end : Whole setup middle left → Whole setup before left
+  part-end next =
+      let sheet = partOf setup before (part .input) in
       record {
-        input = p .input ++ q .input;
-        is = q .is ∙ ap (λ (v : Sheet). noText (endOf b (partOf b v (q .input)))) (p .is) ∙ sym (end-bare b (partOf b (noText u) (q .input)))
-            ∙ ap (λ (v : Sheet). noText (endOf b v)) (part-bare b u (q .input)) ∙ end-bare b (partOf b u (q .input))
-            ∙ ap (λ (v : Sheet). noText (endOf b v)) (sym (part-append b x (p .input) (q .input)));
+        input = part .input ++ next .input;
+        is = next .is ∙ ap (λ (x : Sheet). noText (endOf setup (partOf setup x (next .input)))) (part .is)
+            ∙ sym (end-bare setup (partOf setup (noText sheet) (next .input)))
+            ∙ ap (λ (x : Sheet). noText (endOf setup x)) (part-bare setup sheet (next .input)) ∙ end-bare setup (partOf setup sheet (next .input))
+            ∙ ap (λ (x : Sheet). noText (endOf setup x)) (sym (part-append setup before (part .input) (next .input)));
       }
 
 -- nothing was read yet
-pub no-part : (b : List ℕ) (r : Between) (d : List ℕ) → Part b (found r d) (found r d)
+pub no-part : (setup : Setup) (between : Between) (store : List ℕ) → Part setup (found between store) (found between store)
 unfolding partOf
-no-part b r d = record { input = []; is = refl }
+no-part setup between store = record { input = []; is = refl }
 
 -- ---- from the beginning to the end
 
-pub all-lines : (b out : List ℕ) (r s : Between) {d d′ out′ : List ℕ} {end : ℕ} → isAccepted (foundIn b) ≡ true → after r d out′ end ≡ startOf b (replicate 411 0) out
-    → Whole b (found r d) (found s d′) → All b (s .state)
-all-lines b out r s ok e w =
+pub all-lines : (setup : Setup) (out : List ℕ) (ran : Ran) (between : Between) {store store′ out′ : List ℕ} → isAccepted (foundIn (setup .bank)) ≡ true
+    → after ran store out′ ≡ startOf setup (replicate 411 0) out → Whole setup (found (ran .between) store) (found between store′)
+    → All setup (stateOf (between .state))
+all-lines setup out ran between ok h whole =
     record {
       accepted = ok;
-      input = w .input;
-      is = ap (λ (x : Sheet). x .state) (w .is) ∙ ap (λ (x : Sheet). endOf b (partOf b x (w .input)) .state) (start-leaves b out r e)
-          ∙ ap (λ (x : Sheet). x .state) (all-input b (w .input));
+      input = whole .input;
+      is = ap (λ (x : Sheet). x .state) (whole .is)
+          ∙ ap (λ (x : Sheet). endOf setup (partOf setup x (whole .input)) .state) (start-leaves setup out ran h)
+          ∙ ap (λ (x : Sheet). x .state) (all-input setup (whole .input));
     }

@@ -4,8 +4,10 @@ ghost use mathlib.Core.Bool.{true};
 ghost use Prim.Native.Nat.{_≤_};
 ghost use lib.ListN.{length};
 ghost use Rattle.io.specs.Counts.{Counts};
+ghost use Rattle.plain.specs.Setup.{over};
+ghost use Rattle.controller.specs.Holds.{stateOf};
 ghost use Rattle.line.specs.Part.{found};
-ghost use Rattle.terminal.specs.Input.{Part, Whole, All};
+ghost use Rattle.terminal.specs.Input.{Turned, Whole, All};
 use libc::STDIN_FILENO;
 use libc::STDOUT_FILENO;
 use line::Between;
@@ -43,11 +45,11 @@ fn read_file(file: i32, buffer: &mut [u8]) -> Loaded
                 size: 0,
             };
         }
-        let n = io::count(got, part);
-        if n == 0 {
+        let count = io::count(got, part);
+        if count == 0 {
             break;
         }
-        size += n;
+        size += count;
     }
     Loaded {
         is_read: true,
@@ -77,14 +79,14 @@ pub fn load_bank(buffer: &mut [u8]) -> Loaded
     loaded
 }
 
-// The first n bytes of a buffer are written; false, with a message, where that fails.
-pub fn show(out: &[u8], n: usize) -> bool
-    ensures { λ r. ⌜ (r ≡ true → n ≤ length (now (out .entry))) ⌝ }
+// The bytes of a buffer up to an end are written; false, with a message, where that fails.
+pub fn show(out: &[u8], end: usize) -> bool
+    ensures { λ r. ⌜ (r ≡ true → end ≤ length (now (out .entry))) ⌝ }
 {
-    if out.len() < n {
+    if out.len() < end {
         return false;
     }
-    let is_written = io::write_all(STDOUT_FILENO, &out[..n]);
+    let is_written = io::write_all(STDOUT_FILENO, &out[..end]);
     if !is_written {
         os::fail(b"standard output");
     }
@@ -92,9 +94,9 @@ pub fn show(out: &[u8], n: usize) -> bool
 }
 
 // The text of a call is written, if it is to be shown.
-fn tell(out: &[u8], n: usize, shows: bool) -> bool {
+fn tell(out: &[u8], end: usize, shows: bool) -> bool {
     if shows {
-        return show(out, n);
+        return show(out, end);
     }
     true
 }
@@ -102,7 +104,7 @@ fn tell(out: &[u8], n: usize, shows: bool) -> bool {
 // Lines are read once, and run. Their text is shown before the next read, so that who types a line sees it.
 fn take_turn(bank: &[u8], store: &mut [u8], between: Between, out: &mut [u8], shows: bool) -> Turn
     requires { ⌜ 43008 ≤ length (now out) ⌝ }
-    ensures { λ r. ⌜ (r .«goes_on» ≡ true → Part (now (bank .entry)) (found between (now (store .entry))) (found (r .between) (now (store .exit)))) × (r .«is_whole» ≡ true → Whole (now (bank .entry)) (found between (now (store .entry))) (found (r .between) (now (store .exit)))) ⌝ }
+    ensures { λ r. ⌜ Turned (over (now (bank .entry))) (found between (now (store .entry))) (found (r .between) (now (store .exit))) (r .«goes_on») (r .«is_whole») ⌝ }
 {
     let mut input = [0u8; 256];
     let got = libc::read(STDIN_FILENO, &mut input);
@@ -114,8 +116,8 @@ fn take_turn(bank: &[u8], store: &mut [u8], between: Between, out: &mut [u8], sh
             is_whole: false,
         };
     }
-    let n = io::count(got, &input);
-    if n == 0 {
+    let count = io::count(got, &input);
+    if count == 0 {
         let last = line::finish(bank, store, between, out);
         let ended = last.between;
         return Turn {
@@ -124,7 +126,7 @@ fn take_turn(bank: &[u8], store: &mut [u8], between: Between, out: &mut [u8], sh
             is_whole: tell(out, last.end, shows),
         };
     }
-    let ran = line::run(bank, store, between, &input[..n], out);
+    let ran = line::run(bank, store, between, &input[..count], out);
     let next = ran.between;
     Turn {
         between: next,
@@ -135,34 +137,34 @@ fn take_turn(bank: &[u8], store: &mut [u8], between: Between, out: &mut [u8], sh
 
 // Lines are read until they end, or a read or a write fails. A proved loop has to end, and nothing says that the lines do, so the loop
 // counts its turns down, from a number that no run uses up.
-pub fn run_lines(bank: &[u8], store: &mut [u8], between: Between, shows: bool) -> Ended
-    ensures { λ r. ⌜ (r .«is_whole» ≡ true → Whole (now (bank .entry)) (found between (now (store .entry))) (found (r .between) (now (store .exit)))) ⌝ }
+fn run_lines(bank: &[u8], store: &mut [u8], between: Between, shows: bool) -> Ended
+    ensures { λ r. ⌜ (r .«is_whole» ≡ true → Whole (over (now (bank .entry))) (found between (now (store .entry))) (found (r .between) (now (store .exit)))) ⌝ }
 {
     let mut out = io::large_buffer();
-    let mut x = Turn {
+    let mut turn = Turn {
         between,
         goes_on: true,
         is_whole: false,
     };
     let mut turns = u64::MAX;
     while turns > 0 {
-        if !x.goes_on {
+        if !turn.goes_on {
             break;
         }
-        let so_far = x.between;
-        x = take_turn(bank, store, so_far, &mut out, shows);
+        let so_far = turn.between;
+        turn = take_turn(bank, store, so_far, &mut out, shows);
         turns -= 1;
     }
-    let left = x.between;
+    let left = turn.between;
     Ended {
         between: left,
-        is_whole: x.is_whole,
+        is_whole: turn.is_whole,
     }
 }
 
 // A controller is made over the bank, and the lines are run by it. A refused bank prints its refusal's numbers and nothing more.
 pub fn run_bank(bank: &[u8], shows: bool) -> Ended
-    ensures { λ r. ⌜ (r .«is_whole» ≡ true → All (now (bank .entry)) (r .between .state)) ⌝ }
+    ensures { λ r. ⌜ (r .«is_whole» ≡ true → All (over (now (bank .entry))) (stateOf (r .between .state))) ⌝ }
 {
     let mut store = [0u8; 411];
     let mut out = [0u8; 168];

@@ -23,27 +23,27 @@ use Rattle.writer.specs.Write.{After, after, writeAs}
 
 -- ---- reading
 
-module _ (b : List ℕ) where
+module _ (bank : List ℕ) where
   -- the settings and patterns, with what was found
   abbrev whole : Checked → Bank
-  whole r = record { found = r; settings = settingsAt b; patterns = laidOut (patternsOf b) }
+  whole found = record { found = found; settings = settingsAt bank; patterns = laidOut (patternsOf bank) }
 
-  pub read-refused : {r : Checked} → r ≡ foundIn b → isAccepted r ≡ false → refusedAs r ≡ readOf b
+  pub read-refused : {found : Checked} → found ≡ foundIn bank → isAccepted found ≡ false → refusedAs found ≡ readOf bank
   unfolding readOf readAs
-  read-refused {r} e h =
-      sym (unless-refused {r = r} refusedAs (whole r) h) ∙ ap (λ (f : Checked). readAs f (settingsAt b) (patternsOf b)) e
+  read-refused {found} same h =
+      sym (unless-refused {found = found} refusedAs (whole found) h) ∙ ap (λ (f : Checked). readAs f (settingsAt bank) (patternsOf bank)) same
 
-  pub read-accepted : {r : Checked} → r ≡ foundIn b → r ≡ Accepted → whole r ≡ readOf b
+  pub read-accepted : {found : Checked} → found ≡ foundIn bank → found ≡ Accepted → whole found ≡ readOf bank
   unfolding readOf readAs
-  read-accepted {r} e h =
-      sym (unless-accepted {r = r} refusedAs (whole r) h) ∙ ap (λ (f : Checked). readAs f (settingsAt b) (patternsOf b)) e
+  read-accepted {found} same h =
+      sym (unless-accepted {found = found} refusedAs (whole found) h) ∙ ap (λ (f : Checked). readAs f (settingsAt bank) (patternsOf bank)) same
 
   -- either gives what was found
-  pub read-found : readOf b .found ≡ foundIn b
+  pub read-found : readOf bank .found ≡ foundIn bank
   unfolding readOf readAs refusedAs
-  read-found = go (isAccepted (foundIn b))
+  read-found = go (isAccepted (foundIn bank))
     where
-      go : (t : Bool) → cond t (whole (foundIn b)) (refusedAs (foundIn b)) .found ≡ foundIn b
+      go : (t : Bool) → cond t (whole (foundIn bank)) (refusedAs (foundIn bank)) .found ≡ foundIn bank
       go true = refl
       go false = refl
 
@@ -53,26 +53,26 @@ module _ (bank out : List ℕ) where
   abbrev room : Bool → After
   room fits = cond fits (after (Length (length bank)) (sets out 0 bank)) (after Full out)
 
-  pub refused-as : (r : Checked) → isAccepted r ≡ false → writeAs r bank out ≡ after (Refused r) out
+  pub refused-as : (found : Checked) → isAccepted found ≡ false → writeAs found bank out ≡ after (Refused found) out
   unfolding writeAs
-  refused-as r h = unless-refused {r = r} (λ f. after (Refused f) out) (room (leb (length bank) (length out))) h
+  refused-as found h = unless-refused {found = found} (λ f. after (Refused f) out) (room (leb (length bank) (length out))) h
 
-  accepted-as : {r : Checked} → r ≡ Accepted → {t : Bool} → leb (length bank) (length out) ≡ t → writeAs r bank out ≡ room t
+  accepted-as : {found : Checked} → found ≡ Accepted → {t : Bool} → leb (length bank) (length out) ≡ t → writeAs found bank out ≡ room t
   unfolding writeAs
-  accepted-as {r} e f = unless-accepted {r = r} (λ g. after (Refused g) out) (room (leb (length bank) (length out))) e ∙ ap room f
+  accepted-as {found} same f = unless-accepted {found = found} (λ g. after (Refused g) out) (room (leb (length bank) (length out))) same ∙ ap room f
 
-  pub full-as : {r : Checked} → r ≡ Accepted → length out < length bank → writeAs r bank out ≡ after Full out
-  full-as e h = accepted-as e (lt-leb (length bank) (length out) h)
+  pub full-as : {found : Checked} → found ≡ Accepted → length out < length bank → writeAs found bank out ≡ after Full out
+  full-as same h = accepted-as same (lt-leb (length bank) (length out) h)
 
-  pub written-as : {r : Checked} → r ≡ Accepted → length bank ≤ length out → writeAs r bank out ≡ after (Length (length bank)) (sets out 0 bank)
-  written-as e h = accepted-as e (le-leb (length bank) (length out) h)
+  pub written-as : {found : Checked} → found ≡ Accepted → length bank ≤ length out → writeAs found bank out ≡ after (Length (length bank)) (sets out 0 bank)
+  written-as same h = accepted-as same (le-leb (length bank) (length out) h)
 
 -- a length is told from what is none, and from another
-pub not-refused : (f : Checked) (n : ℕ) → Refused f ≡ Length n → ⊥
-not-refused f n e = let z : _≡_ {A = ℕ} 0 1 = cc in omega arith
+pub not-refused : (f : Checked) (size : ℕ) → Refused f ≡ Length size → ⊥
+not-refused f size same = let z : _≡_ {A = ℕ} 0 1 = cc in omega arith
 
-pub not-full : (n : ℕ) → Full ≡ Length n → ⊥
-not-full n e = let z : _≡_ {A = ℕ} 0 1 = cc in omega arith
+pub not-full : (size : ℕ) → Full ≡ Length size → ⊥
+not-full size same = let z : _≡_ {A = ℕ} 0 1 = cc in omega arith
 
-pub same-length : {m n : ℕ} → Length m ≡ Length n → m ≡ n
-same-length e = cc
+pub same-length : {m size : ℕ} → Length m ≡ Length size → m ≡ size
+same-length same = cc

@@ -37,10 +37,10 @@ laid-turn : (into : Patterns) (p base : ℕ) (x : Pattern) (xs : List Pattern) �
     → laidFrom (record { runs = set (into .runs) p (x .runs); counts = set (into .counts) p (x .count); steps = sets (into .steps) base (x .steps) }) (p + 1) (base + x .count) xs
     ≡ laidFrom into p base (x ∷ xs)
 unfolding laidFrom allSteps
-laid-turn into p base x xs e =
+laid-turn into p base x xs same =
     let runs = map (λ (y : Pattern). y .runs) xs in
     let counts = map (λ (y : Pattern). y .count) xs in
-    let steps = ap (λ (k : ℕ). sets (sets (into .steps) base (x .steps)) (base + k) (allSteps xs)) e
+    let steps = ap (λ (size : ℕ). sets (sets (into .steps) base (x .steps)) (base + size) (allSteps xs)) same
     ∙ sets-append (x .steps) (allSteps xs) (into .steps) base in
     λ i. record {
       runs = sets (set (into .runs) p (x .runs)) (add-one p i) runs;
@@ -51,59 +51,60 @@ laid-turn into p base x xs e =
 -- ---- the patterns of a bank, from place 0 on
 
 abbrev pub patternFrom : List ℕ → ℕ → Pattern
-patternFrom b p = patternAt b (p + 1)
+patternFrom bank p = patternAt bank (p + 1)
 
 -- all of them, laid out in arrays of nothing
 abbrev pub empty : Step → Patterns
 empty x = record { runs = replicate 15 0; counts = replicate 15 0; steps = replicate 99 x }
 
-pub laid-start : (b : List ℕ) {x : Step} → x ≡ noStep → laidFrom (empty x) 0 0 (rest (patternFrom b) (field 1 b 0) 0) ≡ laidOut (patternsOf b)
+pub laid-start : (bank : List ℕ) {x : Step} → x ≡ noStep → laidFrom (empty x) 0 0 (rest (patternFrom bank) (field 1 bank 0) 0) ≡ laidOut (patternsOf bank)
 unfolding laidFrom laidOut patternsOf
-laid-start b e =
-    ap (λ (x : Step). laidFrom (empty x) 0 0 (rest (patternFrom b) (field 1 b 0) 0)) e
-    ∙ ap laidOut (sym (tab-from (patternAt b) 0 (field 1 b 0) ∙ rest-start (patternFrom b) (field 1 b 0)))
+laid-start bank same =
+    ap (λ (x : Step). laidFrom (empty x) 0 0 (rest (patternFrom bank) (field 1 bank 0) 0)) same
+    ∙ ap laidOut (sym (tab-from (patternAt bank) 0 (field 1 bank 0) ∙ rest-start (patternFrom bank) (field 1 bank 0)))
 
 -- none
-pub laid-end : (b : List ℕ) (p : ℕ) → field 1 b 0 ≤ p → (into : Patterns) (base : ℕ) → into ≡ laidFrom into p base (rest (patternFrom b) (field 1 b 0) p)
+pub laid-end : (bank : List ℕ) (p : ℕ) → field 1 bank 0 ≤ p → (into : Patterns) (base : ℕ) → into ≡ laidFrom into p base (rest (patternFrom bank) (field 1 bank 0) p)
 unfolding laidFrom allSteps
-laid-end b p h into base = ap (laidFrom into p base) (sym (rest-end (patternFrom b) (field 1 b 0) p h))
+laid-end bank p h into base = ap (laidFrom into p base) (sym (rest-end (patternFrom bank) (field 1 bank 0) p h))
 
 -- entries counted from 1, one by one, are all of them
 numbered-all : {A : Type 0} (none : A) (xs : List A) → tab (numbered none xs) 1 1 (length xs) ≡ xs
 unfolding numbered
 numbered-all none xs =
     ext-getD none (tab (numbered none xs) 1 1 (length xs)) xs (length-tab (numbered none xs) 1 1 (length xs))
-    (λ j h. let e : 1 + 1 * j ≡ suc j = omega arith in getD-tab (numbered none xs) 1 1 (length xs) j none (omega (arith, length-tab (numbered none xs) 1 1 (length xs))) ∙ ap (numbered none xs) e)
+    (λ j h. let same : 1 + 1 * j ≡ suc j = omega arith in
+    getD-tab (numbered none xs) 1 1 (length xs) j none (omega (arith, length-tab (numbered none xs) 1 1 (length xs))) ∙ ap (numbered none xs) same)
 
 -- as many steps as fit, one pattern more
-pub grown : (base s p c : ℕ) → base ≤ p * c → s ≤ c → base + s ≤ (p + 1) * c
-grown base s p c h k = omega (arith, add-mul p 1 c, one-mul c)
+pub grown : (base count p c : ℕ) → base ≤ p * c → count ≤ c → base + count ≤ (p + 1) * c
+grown base count p c h most = omega (arith, add-mul p 1 c, one-mul c)
 
-module _ (b : List ℕ) (ok : foundIn b ≡ Accepted) (p : ℕ) (h : p < field 1 b 0) where
-  pattern-of : rest (patternFrom b) (field 1 b 0) p ≡ patternOf b (p + 1) ∷ rest (patternFrom b) (field 1 b 0) (p + 1)
+module _ (bank : List ℕ) (ok : foundIn bank ≡ Accepted) (p : ℕ) (h : p < field 1 bank 0) where
+  pattern-of : rest (patternFrom bank) (field 1 bank 0) p ≡ patternOf bank (p + 1) ∷ rest (patternFrom bank) (field 1 bank 0) (p + 1)
   pattern-of =
-      rest-more (patternFrom b) (field 1 b 0) p h
-      ∙ ap (λ (x : Pattern). x ∷ rest (patternFrom b) (field 1 b 0) (p + 1)) (sym (pattern-there b (p + 1) (there b ok (p + 1) (omega arith) (omega arith))))
+      rest-more (patternFrom bank) (field 1 bank 0) p h
+      ∙ ap (λ (x : Pattern). x ∷ rest (patternFrom bank) (field 1 bank 0) (p + 1)) (sym (pattern-there bank (p + 1) (there bank ok (p + 1) (omega arith) (omega arith))))
 
-  count-of : patternOf b (p + 1) .count ≡ length (patternOf b (p + 1) .steps)
-  count-of = count-is b ok (p + 1) (omega arith) (omega arith)
+  count-of : patternOf bank (p + 1) .count ≡ length (patternOf bank (p + 1) .steps)
+  count-of = count-is bank ok (p + 1) (omega arith) (omega arith)
 
-  pub count-in : patternOf b (p + 1) .count ≤ capacityOf (field 1 b 0)
-  count-in = omega (arith, count-of, count-fits b ok (p + 1) (omega arith) (omega arith))
+  pub count-in : patternOf bank (p + 1) .count ≤ capacityOf (field 1 bank 0)
+  count-in = omega (arith, count-of, count-fits bank ok (p + 1) (omega arith) (omega arith))
 
   -- its steps, one by one, are all of them
-  steps-of : tab (stepOf b (p + 1)) 1 1 (patternOf b (p + 1) .count) ≡ patternOf b (p + 1) .steps
+  steps-of : tab (stepOf bank (p + 1)) 1 1 (patternOf bank (p + 1) .count) ≡ patternOf bank (p + 1) .steps
   unfolding stepOf
-  steps-of = ap (tab (stepOf b (p + 1)) 1 1) count-of ∙ numbered-all noStep (patternOf b (p + 1) .steps)
+  steps-of = ap (tab (stepOf bank (p + 1)) 1 1) count-of ∙ numbered-all noStep (patternOf bank (p + 1) .steps)
 
   -- one pattern more is copied, with what is read of it
-  pub copied-turn : (into : Patterns) (base : ℕ) {runs count : ℕ} {steps : List Step} → runs ≡ patternOf b (p + 1) .runs → count ≡ patternOf b (p + 1) .count
-      → steps ≡ sets (into .steps) base (tab (stepOf b (p + 1)) 1 1 count)
-      → laidFrom (record { runs = set (into .runs) p runs; counts = set (into .counts) p count; steps = steps }) (p + 1) (base + count) (rest (patternFrom b) (field 1 b 0) (p + 1))
-      ≡ laidFrom into p base (rest (patternFrom b) (field 1 b 0) p)
-  copied-turn into base r c s =
-      let x = patternOf b (p + 1) in
-      let next = rest (patternFrom b) (field 1 b 0) (p + 1) in
-      let steps = s ∙ ap (λ (m : ℕ). sets (into .steps) base (tab (stepOf b (p + 1)) 1 1 m)) c ∙ ap (sets (into .steps) base) steps-of in
-      (λ i. laidFrom (record { runs = set (into .runs) p (r i); counts = set (into .counts) p (c i); steps = steps i }) (p + 1) (base + c i) next)
+  pub copied-turn : (into : Patterns) (base : ℕ) {runs count : ℕ} {steps : List Step} → runs ≡ patternOf bank (p + 1) .runs → count ≡ patternOf bank (p + 1) .count
+      → steps ≡ sets (into .steps) base (tab (stepOf bank (p + 1)) 1 1 count)
+      → laidFrom (record { runs = set (into .runs) p runs; counts = set (into .counts) p count; steps = steps }) (p + 1) (base + count) (rest (patternFrom bank) (field 1 bank 0) (p + 1))
+      ≡ laidFrom into p base (rest (patternFrom bank) (field 1 bank 0) p)
+  copied-turn into base runs-same c steps-same =
+      let x = patternOf bank (p + 1) in
+      let next = rest (patternFrom bank) (field 1 bank 0) (p + 1) in
+      let steps = steps-same ∙ ap (λ (m : ℕ). sets (into .steps) base (tab (stepOf bank (p + 1)) 1 1 m)) c ∙ ap (sets (into .steps) base) steps-of in
+      (λ i. laidFrom (record { runs = set (into .runs) p (runs-same i); counts = set (into .counts) p (c i); steps = steps i }) (p + 1) (base + c i) next)
       ∙ laid-turn into p base x next count-of ∙ ap (laidFrom into p base) (sym pattern-of)

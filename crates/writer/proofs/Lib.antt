@@ -1,3 +1,4 @@
+-- A bank written is read back, an accepted one is written again as it was; the laws that the proofs of `writer` cite.
 pub mod Views
 pub mod Copied
 pub mod Taken

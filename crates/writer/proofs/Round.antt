@@ -26,32 +26,32 @@ use Rattle.writer.proofs.Laid.{right-again, taken-again}
 
 -- ---- what was written, at the front of a buffer, reads as what was taken
 
-module _ (s : Settings) (ps : Patterns) (f : SettingsFit s) (g : PatternsFit ps) (ok : wrongIn s (takenOf s ps) ≡ Accepted) where
-  written-read : readOf (encode s (takenOf s ps)) ≡ takenBank s ps
+module _ (settings : Settings) (ps : Patterns) (f : SettingsFit settings) (g : PatternsFit ps) (ok : wrongIn settings (takenOf settings ps) ≡ Accepted) where
+  written-read : readOf (encode settings (takenOf settings ps)) ≡ takenBank settings ps
   unfolding readOf readAs takenBank
-  written-read = λ i. readAs (written-accepted s ps f g ok i) (reads-settings s ps f g ok i) (reads-patterns s ps f g ok i)
+  written-read = λ i. readAs (written-accepted settings ps f g ok i) (reads-settings settings ps f g ok i) (reads-patterns settings ps f g ok i)
 
-  pub reads-back : (out : List ℕ) (n : ℕ) → length (encode s (takenOf s ps)) ≤ length out → length (encode s (takenOf s ps)) ≡ n
-      → readOf (take n (sets out 0 (encode s (takenOf s ps)))) ≡ takenBank s ps
-  reads-back out n h e =
-      let b = encode s (takenOf s ps) in
-      let front : take n (sets out 0 b) ≡ b = ap (take n) (sets-eq b out 0 (omega arith)) ∙ take-at b _ n e in
+  pub reads-back : (out : List ℕ) (size : ℕ) → length (encode settings (takenOf settings ps)) ≤ length out → length (encode settings (takenOf settings ps)) ≡ size
+      → readOf (take size (sets out 0 (encode settings (takenOf settings ps)))) ≡ takenBank settings ps
+  reads-back out size h same =
+      let bank = encode settings (takenOf settings ps) in
+      let front : take size (sets out 0 bank) ≡ bank = ap (take size) (sets-eq bank out 0 (omega arith)) ∙ take-at bank _ size same in
       ap readOf front ∙ written-read
 
 -- ---- what was read of an accepted bank is written as its bytes
 
-again : (b out : List ℕ) → Bytes b → foundIn b ≡ Accepted → writeOf (settingsAt b) (laidOut (patternsOf b)) out ≡ rewriteOf b out
+again : (bank out : List ℕ) → Bytes bank → foundIn bank ≡ Accepted → writeOf (settingsAt bank) (laidOut (patternsOf bank)) out ≡ rewriteOf bank out
 unfolding writeOf rewriteOf
-again b out small ok =
-    (λ i. writeAs (wrongIn (settingsAt b) (taken-again b ok i)) (encode (settingsAt b) (taken-again b ok i)) out)
-    ∙ (λ i. writeAs ((right-again b ok ∙ sym ok) i) (written-again b small ok i) out)
+again bank out small ok =
+    (λ i. writeAs (wrongIn (settingsAt bank) (taken-again bank ok i)) (encode (settingsAt bank) (taken-again bank ok i)) out)
+    ∙ (λ i. writeAs ((right-again bank ok ∙ sym ok) i) (written-again bank small ok i) out)
 
 -- by what a call of the reader gave
-module _ (b : List ℕ) (r : Bank) (e : given r ≡ given (readOf b)) where
-  pub found-as : r .found ≡ foundIn b
-  found-as = numbers-tell _ _ (ap (λ (g : Given). g .numbers) e) ∙ read-found b
+module _ (bank : List ℕ) (whole : Bank) (same : given whole ≡ given (readOf bank)) where
+  pub found-as : whole .found ≡ foundIn bank
+  found-as = numbers-tell _ _ (ap (λ (g : Given). g .numbers) same) ∙ read-found bank
 
-  pub rewritten : Bytes b → r .found ≡ Accepted → (out : List ℕ) → writeOf (r .settings) (r .patterns) out ≡ rewriteOf b out
+  pub rewritten : Bytes bank → whole .found ≡ Accepted → (out : List ℕ) → writeOf (whole .settings) (whole .patterns) out ≡ rewriteOf bank out
   rewritten small h out =
       let ok = sym found-as ∙ h in
-      ap (λ (g : Given). writeOf (g .settings) (g .patterns) out) (e ∙ ap given (sym (read-accepted b refl ok))) ∙ again b out small ok
+      ap (λ (g : Given). writeOf (g .settings) (g .patterns) out) (same ∙ ap given (sym (read-accepted bank refl ok))) ∙ again bank out small ok

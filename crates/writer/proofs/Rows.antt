@@ -13,15 +13,16 @@ use Rattle.field.specs.Row.{row, total, storedRow}
 use Rattle.field.proofs.Rows.{stored-row, sets-rows}
 
 -- the row of the numbers that the code holds, which are those that it is to write
-pub row-put : (ws b : List ℕ) (at : ℕ) (us : List ℕ) {vs r : List ℕ} → r ≡ storedRow ws b at us → us ≡ vs → length ws ≤ length us → at + total ws ≤ length b
-    → r ≡ sets b at (row ws vs)
-row-put ws b at us e same h k = e ∙ stored-row ws b at us h k ∙ ap (λ (x : List ℕ). sets b at (row ws x)) same
+pub row-put : (widths buffer : List ℕ) (at : ℕ) (us : List ℕ) {vs left : List ℕ} → left ≡ storedRow widths buffer at us → us ≡ vs → length widths ≤ length us → at + total widths ≤ length buffer
+    → left ≡ sets buffer at (row widths vs)
+row-put widths buffer at us told same h room = told ∙ stored-row widths buffer at us h room ∙ ap (λ (x : List ℕ). sets buffer at (row widths x)) same
 
 -- a row behind another
-pub rows-put : (ws vs ws₁ vs₁ b : List ℕ) (at : ℕ) {r q : List ℕ} → length ws ≡ length vs → r ≡ sets b at (row ws vs) → q ≡ sets r (at + total ws) (row ws₁ vs₁)
-    → q ≡ sets b at (row (ws ++ ws₁) (vs ++ vs₁))
-rows-put ws vs ws₁ vs₁ b at h e f = f ∙ ap (λ (x : List ℕ). sets x (at + total ws) (row ws₁ vs₁)) e ∙ sets-rows ws vs ws₁ vs₁ b at h
+pub rows-put : (widths vs widths₁ vs₁ buffer : List ℕ) (at : ℕ) {left q : List ℕ} → length widths ≡ length vs
+    → left ≡ sets buffer at (row widths vs) → q ≡ sets left (at + total widths) (row widths₁ vs₁)
+    → q ≡ sets buffer at (row (widths ++ widths₁) (vs ++ vs₁))
+rows-put widths vs widths₁ vs₁ buffer at h told f = f ∙ ap (λ (x : List ℕ). sets x (at + total widths) (row widths₁ vs₁)) told ∙ sets-rows widths vs widths₁ vs₁ buffer at h
 
 -- a signed number's bits, as the code has them from a struct
 pub bits-put : {z : ℤ} {x : ℕ} → SFits w16 z → x ≡ ofZ w16 (toZ w16 (ofZ w16 z)) → x ≡ ofZ w16 z
-bits-put f e = e ∙ ap (ofZ w16) (toZ-ofZ f)
+bits-put f told = told ∙ ap (ofZ w16) (toZ-ofZ f)

@@ -23,59 +23,59 @@ use Rattle.writer.proofs.Taken.{part, part-more, countAt, stepsAt, patt
 
 pub length-paired : (m : ℕ) (xs ys : List ℕ) → length xs ≡ m → length ys ≡ m → length (paired xs ys) ≡ 2 * m
 unfolding paired
-length-paired m [] ys h k = omega arith
-length-paired m (x ∷ xs) [] h k = absurd (omega arith)
-length-paired zero (x ∷ xs) (y ∷ ys) h k = absurd (omega arith)
-length-paired (suc m) (x ∷ xs) (y ∷ ys) h k = omega (arith, length-paired m xs ys (omega arith) (omega arith))
+length-paired m [] ys h same = omega arith
+length-paired m (x ∷ xs) [] h same = absurd (omega arith)
+length-paired zero (x ∷ xs) (y ∷ ys) h same = absurd (omega arith)
+length-paired (suc m) (x ∷ xs) (y ∷ ys) h same = omega (arith, length-paired m xs ys (omega arith) (omega arith))
 
 -- a list of four is its four entries
 pub four : (xs : List ℕ) → length xs ≡ 4 → xs ≡ getD xs 0 0 ∷ getD xs 1 0 ∷ getD xs 2 0 ∷ getD xs 3 0 ∷ []
-four [] e = absurd (omega arith)
-four (a ∷ []) e = absurd (omega arith)
-four (a ∷ b ∷ []) e = absurd (omega arith)
-four (a ∷ b ∷ c ∷ []) e = absurd (omega arith)
-four (a ∷ b ∷ c ∷ d ∷ []) e = refl
-four (a ∷ b ∷ c ∷ d ∷ x ∷ xs) e = absurd (omega arith)
+four [] same = absurd (omega arith)
+four (a ∷ []) same = absurd (omega arith)
+four (a ∷ other ∷ []) same = absurd (omega arith)
+four (a ∷ other ∷ c ∷ []) same = absurd (omega arith)
+four (a ∷ other ∷ c ∷ d ∷ []) same = refl
+four (a ∷ other ∷ c ∷ d ∷ x ∷ xs) same = absurd (omega arith)
 
 pub paired-four : (xs ys : List ℕ) → length xs ≡ 4 → length ys ≡ 4
     → paired xs ys
     ≡ getD xs 0 0 ∷ getD ys 0 0 ∷ getD xs 1 0 ∷ getD ys 1 0 ∷ getD xs 2 0 ∷ getD ys 2 0 ∷ getD xs 3 0 ∷ getD ys 3 0 ∷ []
 unfolding paired
-paired-four xs ys h k = λ i. paired (four xs h i) (four ys k i)
+paired-four xs ys h same = λ i. paired (four xs h i) (four ys same i)
 
 -- ---- settings
 
 -- the arrays of settings have four places
-pub record Fours (s : Settings) : Type 0 where
-  pub zones : length (s .zones) ≡ 4
-  pub waits : length (s .waits) ≡ 4
-  pub on : length (s .on) ≡ 4
-  pub off : length (s .off) ≡ 4
+pub record Fours (settings : Settings) : Type 0 where
+  pub zones : length (settings .zones) ≡ 4
+  pub waits : length (settings .waits) ≡ 4
+  pub on : length (settings .on) ≡ 4
+  pub off : length (settings .off) ≡ 4
 
-pub length-numbers : (s : Settings) → Fours s → length (settingNumbers s) ≡ 24
-length-numbers s f =
-    let waiting = length-paired 4 (s .zones) (s .waits) (f .zones) (f .waits) in
-    let signals = length-paired 4 (s .on) (s .off) (f .on) (f .off) in
-    omega (arith, length-append (paired (s .zones) (s .waits)) (paired (s .on) (s .off)))
+pub length-numbers : (settings : Settings) → Fours settings → length (settingNumbers settings) ≡ 24
+length-numbers settings f =
+    let waiting = length-paired 4 (settings .zones) (settings .waits) (f .zones) (f .waits) in
+    let signals = length-paired 4 (settings .on) (settings .off) (f .on) (f .off) in
+    omega (arith, length-append (paired (settings .zones) (settings .waits)) (paired (settings .on) (settings .off)))
 
-pub length-settings : (s : Settings) → Fours s → length (row settingWidths (settingNumbers s)) ≡ 45
+pub length-settings : (settings : Settings) → Fours settings → length (row settingWidths (settingNumbers settings)) ≡ 45
 unfolding total
-length-settings s f = length-row settingWidths (settingNumbers s) (sym (length-numbers s f))
+length-settings settings f = length-row settingWidths (settingNumbers settings) (sym (length-numbers settings f))
 
 -- ---- steps, bodies and pairs
 
-pub length-step : (s : Step) → length (row stepWidths (stepNumbers s)) ≡ 9
+pub length-step : (step : Step) → length (row stepWidths (stepNumbers step)) ≡ 9
 unfolding total
-length-step s = length-row stepWidths (stepNumbers s) refl
+length-step step = length-row stepWidths (stepNumbers step) refl
 
-pub length-two : (v w a b : ℕ) → length (row (v ∷ w ∷ []) (a ∷ b ∷ [])) ≡ v + w
+pub length-two : (v width a other : ℕ) → length (row (v ∷ width ∷ []) (a ∷ other ∷ [])) ≡ v + width
 unfolding total
-length-two v w a b = length-row (v ∷ w ∷ []) (a ∷ b ∷ []) refl ∙ omega arith
+length-two v width a other = length-row (v ∷ width ∷ []) (a ∷ other ∷ []) refl ∙ omega arith
 
-pub length-steps : (ss : List Step) → length (stepsBytes ss) ≡ 9 * length ss
+pub length-steps : (steps : List Step) → length (stepsBytes steps) ≡ 9 * length steps
 unfolding stepsBytes
 length-steps [] = refl
-length-steps (s ∷ ss) = length-append (row stepWidths (stepNumbers s)) (stepsBytes ss) ∙ omega (arith, length-step s, length-steps ss)
+length-steps (step ∷ steps) = length-append (row stepWidths (stepNumbers step)) (stepsBytes steps) ∙ omega (arith, length-step step, length-steps steps)
 
 pub length-pattern : (x : Pattern) → length (row (1 ∷ 1 ∷ []) (x .runs ∷ x .count ∷ []) ++ stepsBytes (x .steps)) ≡ sizeOf x
 length-pattern x =
@@ -84,7 +84,7 @@ length-pattern x =
 
 pub length-body : (x : Pattern) (rest : List ℕ) → length (row (1 ∷ 1 ∷ []) (x .runs ∷ x .count ∷ []) ++ stepsBytes (x .steps) ++ rest) ≡ sizeOf x + length rest
 length-body x rest =
-    length-append (row (1 ∷ 1 ∷ []) (x .runs ∷ x .count ∷ []) ++ stepsBytes (x .steps)) rest ∙ ap (λ (k : ℕ). k + length rest) (length-pattern x)
+    length-append (row (1 ∷ 1 ∷ []) (x .runs ∷ x .count ∷ []) ++ stepsBytes (x .steps)) rest ∙ ap (λ (first : ℕ). first + length rest) (length-pattern x)
 
 pub length-bodies : (xs : List Pattern) → length (bodiesBytes xs) ≡ 2 * length xs + 9 * length (allSteps xs)
 unfolding bodiesBytes allSteps
@@ -99,16 +99,16 @@ length-pairs (x ∷ xs) due =
     ∙ omega (arith, length-two 2 2 due (sizeOf x), length-pairs xs (due + sizeOf x))
 
 -- settings and pairs, and behind them the bodies
-pub length-front : (s : Settings) (xs : List Pattern) (due : ℕ) → Fours s → length (row settingWidths (settingNumbers s) ++ pairsBytes due xs) ≡ 45 + 4 * length xs
-length-front s xs due f =
-    length-append (row settingWidths (settingNumbers s)) (pairsBytes due xs) ∙ omega (arith, length-settings s f, length-pairs xs due)
+pub length-front : (settings : Settings) (xs : List Pattern) (due : ℕ) → Fours settings → length (row settingWidths (settingNumbers settings) ++ pairsBytes due xs) ≡ 45 + 4 * length xs
+length-front settings xs due f =
+    length-append (row settingWidths (settingNumbers settings)) (pairsBytes due xs) ∙ omega (arith, length-settings settings f, length-pairs xs due)
 
-pub length-bank : (s : Settings) (xs : List Pattern) → Fours s → length (encode s xs) ≡ 45 + 6 * length xs + 9 * length (allSteps xs)
+pub length-bank : (settings : Settings) (xs : List Pattern) → Fours settings → length (encode settings xs) ≡ 45 + 6 * length xs + 9 * length (allSteps xs)
 unfolding encode
-length-bank s xs f =
+length-bank settings xs f =
     let due = 45 + 4 * length xs in
-    length-append (row settingWidths (settingNumbers s) ++ pairsBytes due xs) (bodiesBytes xs)
-    ∙ omega (arith, length-front s xs due f, length-bodies xs)
+    length-append (row settingWidths (settingNumbers settings) ++ pairsBytes due xs) (bodiesBytes xs)
+    ∙ omega (arith, length-front settings xs due f, length-bodies xs)
 
 -- ---- what is taken
 
@@ -122,8 +122,8 @@ module _ (ps : Patterns) (n : ℕ) (fit : Fit n ps) (all : length (ps .steps) �
 
   steps-from : (p m : ℕ) → p + m ≡ n → sumTo (ps .counts) p + length (allSteps (tab (patternIn ps) 1 p m)) ≡ sumTo (ps .counts) n
   unfolding allSteps tab
-  steps-from p zero e = let f : p ≡ n = omega arith in rw f (omega arith)
-  steps-from p (suc m) e =
+  steps-from p zero same = let f : p ≡ n = omega arith in rw f (omega arith)
+  steps-from p (suc m) same =
       let size = length-append (stepsAt ps p) (allSteps (tab (patternIn ps) 1 (p + 1) m)) in
       omega (arith, steps-from (p + 1) m (omega arith), size, full p (omega arith), sum-more (ps .counts) p)
 
@@ -133,17 +133,17 @@ module _ (ps : Patterns) (n : ℕ) (fit : Fit n ps) (all : length (ps .steps) �
 
 -- ---- the loops that write: the rest, stored behind the first part
 
-pub sets-then : (out xs rest : List ℕ) (at j : ℕ) {r : List ℕ} → r ≡ sets out at xs → at + length xs ≡ j → sets out at (xs ++ rest) ≡ sets r j rest
-sets-then out xs rest at j e f = sym (sets-append xs rest out at) ∙ (λ i. sets (sym e i) (f i) rest)
+pub sets-then : (out xs rest : List ℕ) (at j : ℕ) {left : List ℕ} → left ≡ sets out at xs → at + length xs ≡ j → sets out at (xs ++ rest) ≡ sets left j rest
+sets-then out xs rest at j same f = sym (sets-append xs rest out at) ∙ (λ i. sets (sym same i) (f i) rest)
 
-pub steps-turn : (steps : List Step) (base count k : ℕ) (d : Step) → k < count → base + k < length steps → (out : List ℕ) (at j : ℕ) {r : List ℕ}
-    → r ≡ sets out at (row stepWidths (stepNumbers (getD steps (base + k) d))) → at + 9 ≡ j
-    → sets out at (stepsBytes (part steps base count k)) ≡ sets r j (stepsBytes (part steps base count (k + 1)))
+pub steps-turn : (steps : List Step) (base count k : ℕ) (d : Step) → k < count → base + k < length steps → (out : List ℕ) (at j : ℕ) {left : List ℕ}
+    → left ≡ sets out at (row stepWidths (stepNumbers (getD steps (base + k) d))) → at + 9 ≡ j
+    → sets out at (stepsBytes (part steps base count k)) ≡ sets left j (stepsBytes (part steps base count (k + 1)))
 unfolding stepsBytes
-steps-turn steps base count k d h l out at j e f =
+steps-turn steps base count k d h l out at j same f =
     let x = getD steps (base + k) d in
     ap (λ (ss : List Step). sets out at (stepsBytes ss)) (part-more steps base count k d h l)
-    ∙ sets-then out (row stepWidths (stepNumbers x)) (stepsBytes (part steps base count (k + 1))) at j e (omega (arith, length-step x))
+    ∙ sets-then out (row stepWidths (stepNumbers x)) (stepsBytes (part steps base count (k + 1))) at j same (omega (arith, length-step x))
 
 -- one pattern, whose steps are there
 module _ (ps : Patterns) (n p : ℕ) (h : p < n) (l : sumTo (ps .counts) p + countAt ps p ≤ length (ps .steps)) where
@@ -151,41 +151,41 @@ module _ (ps : Patterns) (n p : ℕ) (h : p < n) (l : sumTo (ps .counts) p + cou
   next = rest (patternIn ps) n (p + 1)
 
   size : sizeOf (patternIn ps p) ≡ 2 + 9 * countAt ps p
-  size = ap (λ (k : ℕ). 2 + 9 * k) (length-part (ps .steps) (sumTo (ps .counts) p) (countAt ps p) l)
+  size = ap (λ (count : ℕ). 2 + 9 * count) (length-part (ps .steps) (sumTo (ps .counts) p) (countAt ps p) l)
 
-  pub pairs-turn : (out : List ℕ) (due at j : ℕ) {r : List ℕ} → r ≡ sets out at (row (2 ∷ 2 ∷ []) (due ∷ (2 + 9 * countAt ps p) ∷ [])) → at + 4 ≡ j
-      → sets out at (pairsBytes due (rest (patternIn ps) n p)) ≡ sets r j (pairsBytes (due + (2 + 9 * countAt ps p)) (rest (patternIn ps) n (p + 1)))
+  pub pairs-turn : (out : List ℕ) (due at j : ℕ) {left : List ℕ} → left ≡ sets out at (row (2 ∷ 2 ∷ []) (due ∷ (2 + 9 * countAt ps p) ∷ [])) → at + 4 ≡ j
+      → sets out at (pairsBytes due (rest (patternIn ps) n p)) ≡ sets left j (pairsBytes (due + (2 + 9 * countAt ps p)) (rest (patternIn ps) n (p + 1)))
   unfolding pairsBytes
-  pairs-turn out due at j e f =
+  pairs-turn out due at j same f =
       let len = 2 + 9 * countAt ps p in
       ap (λ (xs : List Pattern). sets out at (pairsBytes due xs)) (rest-more (patternIn ps) n p h)
       ∙ (λ i. sets out at (row (2 ∷ 2 ∷ []) (due ∷ size i ∷ []) ++ pairsBytes (due + size i) next))
-      ∙ sets-then out (row (2 ∷ 2 ∷ []) (due ∷ len ∷ [])) (pairsBytes (due + len) next) at j e (omega (arith, length-two 2 2 due len))
+      ∙ sets-then out (row (2 ∷ 2 ∷ []) (due ∷ len ∷ [])) (pairsBytes (due + len) next) at j same (omega (arith, length-two 2 2 due len))
 
   pub bodies-size : length (bodiesBytes (rest (patternIn ps) n p)) ≡ 2 + 9 * countAt ps p + length (bodiesBytes (rest (patternIn ps) n (p + 1)))
   unfolding bodiesBytes
   bodies-size =
       ap (λ (xs : List Pattern). length (bodiesBytes xs)) (rest-more (patternIn ps) n p h)
-      ∙ length-body (patternIn ps p) (bodiesBytes next) ∙ ap (λ (k : ℕ). k + length (bodiesBytes next)) size
+      ∙ length-body (patternIn ps p) (bodiesBytes next) ∙ ap (λ (first : ℕ). first + length (bodiesBytes next)) size
 
-  pub bodies-turn : (out : List ℕ) (at base : ℕ) {r : List ℕ} → base ≡ sumTo (ps .counts) p
-      → r ≡ sets out at (row (1 ∷ 1 ∷ []) (getD (ps .runs) p 0 ∷ countAt ps p ∷ []) ++ stepsBytes (take (countAt ps p) (drop base (ps .steps))))
-      → sets out at (bodiesBytes (rest (patternIn ps) n p)) ≡ sets r (at + (2 + 9 * countAt ps p)) (bodiesBytes (rest (patternIn ps) n (p + 1)))
+  pub bodies-turn : (out : List ℕ) (at base : ℕ) {left : List ℕ} → base ≡ sumTo (ps .counts) p
+      → left ≡ sets out at (row (1 ∷ 1 ∷ []) (getD (ps .runs) p 0 ∷ countAt ps p ∷ []) ++ stepsBytes (take (countAt ps p) (drop base (ps .steps))))
+      → sets out at (bodiesBytes (rest (patternIn ps) n p)) ≡ sets left (at + (2 + 9 * countAt ps p)) (bodiesBytes (rest (patternIn ps) n (p + 1)))
   unfolding bodiesBytes
-  bodies-turn out at base b e =
+  bodies-turn out at base begins same =
       let head = row (1 ∷ 1 ∷ []) (getD (ps .runs) p 0 ∷ countAt ps p ∷ []) in
       let long : length (head ++ stepsBytes (stepsAt ps p)) ≡ 2 + 9 * countAt ps p = length-pattern (patternIn ps p) ∙ size in
-      let put = e ∙ ap (λ (k : ℕ). sets out at (head ++ stepsBytes (take (countAt ps p) (drop k (ps .steps))))) b in
+      let put = same ∙ ap (λ (from : ℕ). sets out at (head ++ stepsBytes (take (countAt ps p) (drop from (ps .steps))))) begins in
       ap (λ (xs : List Pattern). sets out at (bodiesBytes xs)) (rest-more (patternIn ps) n p h)
       ∙ sets-then out (head ++ stepsBytes (stepsAt ps p)) (bodiesBytes next) at (at + (2 + 9 * countAt ps p)) put (omega (arith, long))
 
 -- the whole bank of n patterns: settings, pairs, bodies
-pub bank-parts : (s : Settings) (xs : List Pattern) (n : ℕ) (out : List ℕ) → Fours s → length xs ≡ n
-    → sets out 0 (encode s xs) ≡ sets (sets (sets out 0 (row settingWidths (settingNumbers s))) 45 (pairsBytes (45 + 4 * n) xs)) (45 + 4 * n) (bodiesBytes xs)
+pub bank-parts : (settings : Settings) (xs : List Pattern) (n : ℕ) (out : List ℕ) → Fours settings → length xs ≡ n
+    → sets out 0 (encode settings xs) ≡ sets (sets (sets out 0 (row settingWidths (settingNumbers settings))) 45 (pairsBytes (45 + 4 * n) xs)) (45 + 4 * n) (bodiesBytes xs)
 unfolding encode
-bank-parts s xs n out f e =
+bank-parts settings xs n out f same =
     let due = 45 + 4 * n in
-    let head = row settingWidths (settingNumbers s) in
-    ap (λ (m : ℕ). sets out 0 (head ++ pairsBytes (45 + 4 * m) xs ++ bodiesBytes xs)) e
-    ∙ sets-then out (head ++ pairsBytes due xs) (bodiesBytes xs) 0 due refl (omega (arith, length-front s xs due f))
-    ∙ ap (λ (x : List ℕ). sets x due (bodiesBytes xs)) (sets-then out head (pairsBytes due xs) 0 45 refl (omega (arith, length-settings s f)))
+    let head = row settingWidths (settingNumbers settings) in
+    ap (λ (m : ℕ). sets out 0 (head ++ pairsBytes (45 + 4 * m) xs ++ bodiesBytes xs)) same
+    ∙ sets-then out (head ++ pairsBytes due xs) (bodiesBytes xs) 0 due refl (omega (arith, length-front settings xs due f))
+    ∙ ap (λ (x : List ℕ). sets x due (bodiesBytes xs)) (sets-then out head (pairsBytes due xs) 0 45 refl (omega (arith, length-settings settings f)))

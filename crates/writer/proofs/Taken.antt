@@ -44,13 +44,13 @@ pub part-more : (steps : List Step) (base count k : ℕ) (d : Step) → k < coun
     → part steps base count k ≡ getD steps (base + k) d ∷ part steps base count (k + 1)
 unfolding part
 part-more steps base count k d h l =
-    let e : count - k ≡ suc (count - (k + 1)) = omega arith in
+    let same : count - k ≡ suc (count - (k + 1)) = omega arith in
     let f : suc (base + k) ≡ base + (k + 1) = omega arith in
-    rw (e, drop-cons steps (base + k) d l, f)
+    rw (same, drop-cons steps (base + k) d l, f)
 
 pub part-end : (steps : List Step) (base count k : ℕ) → count ≤ k → part steps base count k ≡ []
 unfolding part
-part-end steps base count k h = let e : count - k ≡ 0 = omega arith in rw e
+part-end steps base count k h = let same : count - k ≡ 0 = omega arith in rw same
 
 -- ---- the patterns, from place p on
 
@@ -81,15 +81,15 @@ from-place ps p (suc m) =
     ∙ ap (λ (xs : List Pattern). patternIn ps p ∷ xs) (from-place ps (p + 1) m)
 
 -- all of them
-pub taken-all : (s : Settings) (ps : Patterns) → takenOf s ps ≡ tab (patternIn ps) 1 0 (s .patterns)
+pub taken-all : (settings : Settings) (ps : Patterns) → takenOf settings ps ≡ tab (patternIn ps) 1 0 (settings .patterns)
 unfolding takenOf sumTo
-taken-all s ps = from-place ps 0 (s .patterns)
+taken-all settings ps = from-place ps 0 (settings .patterns)
 
-pub taken-rest : (s : Settings) (ps : Patterns) → takenOf s ps ≡ rest (patternIn ps) (s .patterns) 0
-taken-rest s ps = taken-all s ps ∙ rest-start (patternIn ps) (s .patterns)
+pub taken-rest : (settings : Settings) (ps : Patterns) → takenOf settings ps ≡ rest (patternIn ps) (settings .patterns) 0
+taken-rest settings ps = taken-all settings ps ∙ rest-start (patternIn ps) (settings .patterns)
 
-pub length-taken : (s : Settings) (ps : Patterns) → length (takenOf s ps) ≡ s .patterns
-length-taken s ps = ap length (taken-all s ps) ∙ length-tab (patternIn ps) 1 0 (s .patterns)
+pub length-taken : (settings : Settings) (ps : Patterns) → length (takenOf settings ps) ≡ settings .patterns
+length-taken settings ps = ap length (taken-all settings ps) ∙ length-tab (patternIn ps) 1 0 (settings .patterns)
 
 -- ---- the check of what is left, under the set value limits
 
@@ -117,11 +117,11 @@ module _ (low high : ℤ) where
       ≡ test (both (leb (getD (ps .runs) p 0) 99) (leb (countAt ps p) (capacityOf n))) (Body (p + 1) 0)
       (then (stepsLeft (ps .steps) p base (countAt ps p) 0) (patternsLeft ps n (p + 1)))
   unfolding patternsLeft stepsLeft bodiesFound withinCapacity
-  patterns-more ps n p base h e =
+  patterns-more ps n p base h same =
       let right = both (leb (getD (ps .runs) p 0) 99) (leb (countAt ps p) (capacityOf n)) in
       let next = bodiesFound (withinCapacity n) low high (p + 1 + 1) (rest (patternIn ps) n (p + 1)) in
       let steps : stepsAt ps p ≡ part (ps .steps) base (countAt ps p) 0 =
-      ap (λ (k : ℕ). take (countAt ps p) (drop k (ps .steps))) (sym e) ∙ part-start (ps .steps) base (countAt ps p) in
+      ap (λ (from : ℕ). take (countAt ps p) (drop from (ps .steps))) (sym same) ∙ part-start (ps .steps) base (countAt ps p) in
       ap (bodiesFound (withinCapacity n) low high (p + 1)) (rest-more (patternIn ps) n p h)
       ∙ ap (λ (ss : List Step). test right (Body (p + 1) 0) (then (stepsFound low high (p + 1) 1 ss) next)) steps
 
@@ -129,10 +129,10 @@ module _ (low high : ℤ) where
   unfolding patternsLeft bodiesFound
   patterns-end ps n p h = ap (bodiesFound (withinCapacity n) low high (p + 1)) (rest-end (patternIn ps) n p h)
 
-pub patterns-start : (s : Settings) (ps : Patterns)
-    → bodiesFound (withinCapacity (s .patterns)) (s .low) (s .high) 1 (takenOf s ps) ≡ patternsLeft (s .low) (s .high) ps (s .patterns) 0
+pub patterns-start : (settings : Settings) (ps : Patterns)
+    → bodiesFound (withinCapacity (settings .patterns)) (settings .low) (settings .high) 1 (takenOf settings ps) ≡ patternsLeft (settings .low) (settings .high) ps (settings .patterns) 0
 unfolding patternsLeft
-patterns-start s ps = ap (bodiesFound (withinCapacity (s .patterns)) (s .low) (s .high) 1) (taken-rest s ps)
+patterns-start settings ps = ap (bodiesFound (withinCapacity (settings .patterns)) (settings .low) (settings .high) 1) (taken-rest settings ps)
 
 -- ---- of patterns that are right
 
@@ -140,12 +140,12 @@ patterns-start s ps = ap (bodiesFound (withinCapacity (s .patterns)) (s .low) (s
 each-right : (right : Pattern → Bool) (low high : ℤ) (xs : List Pattern) (q j : ℕ) (d : Pattern) → bodiesFound right low high q xs ≡ Accepted → j < length xs
     → (getD xs j d .runs ≤ 99) × (right (getD xs j d) ≡ true)
 unfolding bodiesFound
-each-right right low high [] q j d e h = absurd (omega arith)
-each-right right low high (x ∷ xs) q zero d e h =
-    let t = test-holds _ _ _ (not-body q 0) e .0 in
+each-right right low high [] q j d same h = absurd (omega arith)
+each-right right low high (x ∷ xs) q zero d same h =
+    let t = test-holds _ _ _ (not-body q 0) same .0 in
     (leb-true _ _ (both-left _ _ t), both-right _ _ t)
-each-right right low high (x ∷ xs) q (suc j) d e h =
-    each-right right low high xs (q + 1) j d (then-holds _ _ (test-holds _ _ _ (not-body q 0) e .1) .1) (omega arith)
+each-right right low high (x ∷ xs) q (suc j) d same h =
+    each-right right low high xs (q + 1) j d (then-holds _ _ (test-holds _ _ _ (not-body q 0) same .1) .1) (omega arith)
 
 -- as many as there can be, each with at most as many runs and steps as there can be
 pub record Fit (n : ℕ) (ps : Patterns) : Type 0 where
@@ -154,26 +154,26 @@ pub record Fit (n : ℕ) (ps : Patterns) : Type 0 where
   pub runs : (p : ℕ) → p < n → getD (ps .runs) p 0 ≤ 99
   pub count : (p : ℕ) → p < n → countAt ps p ≤ capacityOf n
 
-pub fit-of : (s : Settings) (ps : Patterns) → wrongIn s (takenOf s ps) ≡ Accepted → Fit (s .patterns) ps
+pub fit-of : (settings : Settings) (ps : Patterns) → wrongIn settings (takenOf settings ps) ≡ Accepted → Fit (settings .patterns) ps
 unfolding wrongIn withinCapacity
-fit-of s ps e = record {
-  some = settings-count s (then-holds _ _ e .0) .0;
-  few = settings-count s (then-holds _ _ e .0) .1;
+fit-of settings ps same = record {
+  some = settings-count settings (then-holds _ _ same .0) .0;
+  few = settings-count settings (then-holds _ _ same .0) .1;
   runs = λ p h. each p h .0;
   count = λ p h. leb-true _ _ (each p h .1);
 }
   where
     n : ℕ
-    n = s .patterns
+    n = settings .patterns
 
-    found : bodiesFound (withinCapacity n) (s .low) (s .high) 1 (tab (patternIn ps) 1 0 n) ≡ Accepted
-    found = ap (bodiesFound (withinCapacity n) (s .low) (s .high) 1) (sym (taken-all s ps)) ∙ then-holds _ _ e .1
+    found : bodiesFound (withinCapacity n) (settings .low) (settings .high) 1 (tab (patternIn ps) 1 0 n) ≡ Accepted
+    found = ap (bodiesFound (withinCapacity n) (settings .low) (settings .high) 1) (sym (taken-all settings ps)) ∙ then-holds _ _ same .1
 
     each : (p : ℕ) → p < n → (getD (ps .runs) p 0 ≤ 99) × (withinCapacity n (patternIn ps p) ≡ true)
     each p h =
         let i : 0 + 1 * p ≡ p = omega arith in
         subst (λ (x : Pattern). (x .runs ≤ 99) × (withinCapacity n x ≡ true)) (getD-tab (patternIn ps) 1 0 n p noPattern h ∙ ap (patternIn ps) i)
-        (each-right (withinCapacity n) (s .low) (s .high) (tab (patternIn ps) 1 0 n) 1 p noPattern found (omega (arith, length-tab (patternIn ps) 1 0 n)))
+        (each-right (withinCapacity n) (settings .low) (settings .high) (tab (patternIn ps) 1 0 n) 1 p noPattern found (omega (arith, length-tab (patternIn ps) 1 0 n)))
 
 module _ (n : ℕ) (ps : Patterns) (fit : Fit n ps) where
   sum-fits : (p : ℕ) → p ≤ n → sumTo (ps .counts) p ≤ p * capacityOf n

@@ -10,32 +10,32 @@ use lib.ListN.{take, drop}
 use Rattle.field.specs.Tab.{tab}
 use Rattle.field.proofs.Tab.{tab-end}
 
--- ---- what is left of n entries at place p
+-- ---- what is left of so many entries at a place
 
 unfoldable pub rest : {A : Type 0} → (ℕ → A) → ℕ → ℕ → List A
-rest f n p = tab f 1 p (n - p)
+rest f count place = tab f 1 place (count - place)
 
-pub rest-start : {A : Type 0} (f : ℕ → A) (n : ℕ) → tab f 1 0 n ≡ rest f n 0
+pub rest-start : {A : Type 0} (f : ℕ → A) (count : ℕ) → tab f 1 0 count ≡ rest f count 0
 unfolding rest
-rest-start f n = ap (tab f 1 0) (sym (sub-zero n))
+rest-start f count = ap (tab f 1 0) (sym (sub-zero count))
 
-pub rest-more : {A : Type 0} (f : ℕ → A) (n p : ℕ) → p < n → rest f n p ≡ f p ∷ rest f n (p + 1)
+pub rest-more : {A : Type 0} (f : ℕ → A) (count place : ℕ) → place < count → rest f count place ≡ f place ∷ rest f count (place + 1)
 unfolding rest tab
-rest-more f n p h = let e : n - p ≡ suc (n - (p + 1)) = omega arith in rw e
+rest-more f count place h = let same : count - place ≡ suc (count - (place + 1)) = omega arith in rw same
 
-pub rest-end : {A : Type 0} (f : ℕ → A) (n p : ℕ) → n ≤ p → rest f n p ≡ []
+pub rest-end : {A : Type 0} (f : ℕ → A) (count place : ℕ) → count ≤ place → rest f count place ≡ []
 unfolding rest
-rest-end f n p h = tab-end f 1 p n p h
+rest-end f count place h = tab-end f 1 place count place h
 
--- the next of places that stand w apart
-pub next-place : (at w k : ℕ) → at + w * k + w ≡ at + w * (k + 1)
-next-place at w k = rw add-one (omega (arith, mul-suc w k))
+-- the next of places that stand a width apart
+pub next-place : (at width index : ℕ) → at + width * index + width ≡ at + width * (index + 1)
+next-place at width index = rw add-one (omega (arith, mul-suc width index))
 
 -- places counted from 1
-pub tab-from : {A : Type 0} (f : ℕ → A) (p m : ℕ) → tab f 1 (p + 1) m ≡ tab (λ i. f (i + 1)) 1 p m
+pub tab-from : {A : Type 0} (f : ℕ → A) (place m : ℕ) → tab f 1 (place + 1) m ≡ tab (λ i. f (i + 1)) 1 place m
 unfolding tab
-tab-from f p zero = refl
-tab-from f p (suc m) = ap (λ (xs : List _). f (p + 1) ∷ xs) (tab-from f (p + 1) m)
+tab-from f place zero = refl
+tab-from f place (suc m) = ap (λ (xs : List _). f (place + 1) ∷ xs) (tab-from f (place + 1) m)
 
 -- ---- what holds of every entry
 
@@ -47,17 +47,17 @@ pub all-map : {A : Type 0} (P Q : A → Type 0) → ((x : A) → P x → Q x) �
 all-map P Q f [] h = tt
 all-map P Q f (x ∷ xs) h = (f x (h .0), all-map P Q f xs (h .1))
 
-pub all-drop : {A : Type 0} (P : A → Type 0) (k : ℕ) (xs : List A) → All P xs → All P (drop k xs)
+pub all-drop : {A : Type 0} (P : A → Type 0) (index : ℕ) (xs : List A) → All P xs → All P (drop index xs)
 all-drop P zero xs h = h
-all-drop P (suc k) [] h = h
-all-drop P (suc k) (x ∷ xs) h = all-drop P k xs (h .1)
+all-drop P (suc index) [] h = h
+all-drop P (suc index) (x ∷ xs) h = all-drop P index xs (h .1)
 
-pub all-take : {A : Type 0} (P : A → Type 0) (k : ℕ) (xs : List A) → All P xs → All P (take k xs)
+pub all-take : {A : Type 0} (P : A → Type 0) (index : ℕ) (xs : List A) → All P xs → All P (take index xs)
 all-take P zero xs h = tt
-all-take P (suc k) [] h = h
-all-take P (suc k) (x ∷ xs) h = (h .0, all-take P k xs (h .1))
+all-take P (suc index) [] h = h
+all-take P (suc index) (x ∷ xs) h = (h .0, all-take P index xs (h .1))
 
-pub all-tab : {A : Type 0} (P : A → Type 0) (f : ℕ → A) (p m : ℕ) → ((i : ℕ) → p ≤ i → i < p + m → P (f i)) → All P (tab f 1 p m)
+pub all-tab : {A : Type 0} (P : A → Type 0) (f : ℕ → A) (place m : ℕ) → ((i : ℕ) → place ≤ i → i < place + m → P (f i)) → All P (tab f 1 place m)
 unfolding tab
-all-tab P f p zero h = tt
-all-tab P f p (suc m) h = (h p (omega arith) (omega arith), all-tab P f (p + 1) m (λ i l u. h i (omega arith) (omega arith)))
+all-tab P f place zero h = tt
+all-tab P f place (suc m) h = (h place (omega arith) (omega arith), all-tab P f (place + 1) m (λ i l upper. h i (omega arith) (omega arith)))

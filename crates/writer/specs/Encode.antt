@@ -22,22 +22,22 @@ paired (x ∷ xs) [] = []
 paired (x ∷ xs) (y ∷ ys) = x ∷ y ∷ paired xs ys
 
 abbrev pub settingNumbers : Settings → List ℕ
-settingNumbers s =
-    s .patterns ∷ s .start ∷ s .outage ∷ ofZ w16 (s .low) ∷ ofZ w16 (s .high) ∷ ofZ w16 (s .initial) ∷ s .width ∷ s .filter
-    ∷ (paired (s .zones) (s .waits) ++ paired (s .on) (s .off))
+settingNumbers settings =
+    settings .patterns ∷ settings .start ∷ settings .outage ∷ ofZ w16 (settings .low) ∷ ofZ w16 (settings .high) ∷ ofZ w16 (settings .initial) ∷ settings .width ∷ settings .filter
+    ∷ (paired (settings .zones) (settings .waits) ++ paired (settings .on) (settings .off))
 
 -- target (signed 16), minutes (16 bits), wait number, four time signals: nine bytes
 abbrev pub stepWidths : List ℕ
 stepWidths = 2 ∷ 2 ∷ 1 ∷ 1 ∷ 1 ∷ 1 ∷ 1 ∷ []
 
 abbrev pub stepNumbers : Step → List ℕ
-stepNumbers s =
-    ofZ w16 (s .target) ∷ s .minutes ∷ s .wait ∷ getD (s .signals) 0 0 ∷ getD (s .signals) 1 0 ∷ getD (s .signals) 2 0
-    ∷ getD (s .signals) 3 0 ∷ []
+stepNumbers step =
+    ofZ w16 (step .target) ∷ step .minutes ∷ step .wait ∷ getD (step .signals) 0 0 ∷ getD (step .signals) 1 0 ∷ getD (step .signals) 2 0
+    ∷ getD (step .signals) 3 0 ∷ []
 
 unfoldable pub stepsBytes : List Step → List ℕ
 stepsBytes [] = []
-stepsBytes (s ∷ ss) = row stepWidths (stepNumbers s) ++ stepsBytes ss
+stepsBytes (step ∷ steps) = row stepWidths (stepNumbers step) ++ stepsBytes steps
 
 -- the bodies: runs, s, then the steps of each
 unfoldable pub bodiesBytes : List Pattern → List ℕ
@@ -55,4 +55,4 @@ pairsBytes due (x ∷ xs) = row (2 ∷ 2 ∷ []) (due ∷ sizeOf x ∷ []) ++ pa
 
 -- settings, pairs, bodies
 unfoldable pub encode : Settings → List Pattern → List ℕ
-encode s ps = row settingWidths (settingNumbers s) ++ pairsBytes (45 + 4 * length ps) ps ++ bodiesBytes ps
+encode settings ps = row settingWidths (settingNumbers settings) ++ pairsBytes (45 + 4 * length ps) ps ++ bodiesBytes ps

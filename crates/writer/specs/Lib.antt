@@ -2,3 +2,4 @@
 pub mod Read
 pub mod Encode
 pub mod Write
+pub mod Asked

@@ -36,7 +36,7 @@ unfoldable pub readAs : Checked → Settings → List Pattern → Bank
 readAs found set ps = unless found refusedAs (record { found = found; settings = set; patterns = laidOut ps })
 
 unfoldable pub readOf : List ℕ → Bank
-readOf b = readAs (foundIn b) (settingsAt b) (patternsOf b)
+readOf bank = readAs (foundIn bank) (settingsAt bank) (patternsOf bank)
 
 -- what a call of the reader gives: its answer's numbers, the settings and the patterns
 pub record Given : Type 0 where

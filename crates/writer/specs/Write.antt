@@ -24,7 +24,7 @@ use Rattle.writer.specs.Encode.{encode}
 
 -- the document's number and values of each case; 0 with the length is accepted, 15 is a buffer too short
 unfoldable pub writtenNumbers : Written → List ℕ
-writtenNumbers (Length n) = 0 ∷ n ∷ []
+writtenNumbers (Length size) = 0 ∷ size ∷ []
 writtenNumbers (Refused found) = numbersOf found
 writtenNumbers Full = 15 ∷ []
 
@@ -34,7 +34,7 @@ pub record After : Type 0 where
   pub bytes : List ℕ
 
 abbrev pub after : Written → List ℕ → After
-after w out = record { numbers = writtenNumbers w; bytes = out }
+after written out = record { numbers = writtenNumbers written; bytes = out }
 
 -- the patterns that the writer takes: m of them from place p on, whose steps stand from place base on
 unfoldable pub takenFrom : Patterns → ℕ → ℕ → ℕ → List Pattern
@@ -45,7 +45,7 @@ takenFrom ps p base (suc m) =
 
 -- the n patterns
 unfoldable pub takenOf : Settings → Patterns → List Pattern
-takenOf s ps = takenFrom ps 0 0 (s .patterns)
+takenOf settings ps = takenFrom ps 0 0 (settings .patterns)
 
 -- an s of at most the capacity is right
 unfoldable pub withinCapacity : ℕ → Pattern → Bool
@@ -53,7 +53,7 @@ withinCapacity n x = leb (x .count) (capacityOf n)
 
 -- 12, then 14 pattern by pattern: runs, s, steps
 unfoldable pub wrongIn : Settings → List Pattern → Checked
-wrongIn s ps = then (settingsFound s) (bodiesFound (withinCapacity (s .patterns)) (s .low) (s .high) 1 ps)
+wrongIn settings ps = then (settingsFound settings) (bodiesFound (withinCapacity (settings .patterns)) (settings .low) (settings .high) 1 ps)
 
 -- a refusal leaves the buffer, and so does 15; else the bank stands at the buffer's front, and the bytes past its end are untouched
 unfoldable pub writeAs : Checked → List ℕ → List ℕ → After
@@ -62,14 +62,14 @@ writeAs found bank out =
     (cond (leb (length bank) (length out)) (after (Length (length bank)) (sets out 0 bank)) (after Full out))
 
 unfoldable pub writeOf : Settings → Patterns → List ℕ → After
-writeOf s ps out = writeAs (wrongIn s (takenOf s ps)) (encode s (takenOf s ps)) out
+writeOf settings ps out = writeAs (wrongIn settings (takenOf settings ps)) (encode settings (takenOf settings ps)) out
 
 -- "a bank it wrote reads as what it took": where a length is answered, so many bytes at the front read as the settings and the n patterns
 unfoldable pub takenBank : Settings → Patterns → Bank
-takenBank s ps = record { found = Accepted; settings = s; patterns = laidOut (takenOf s ps) }
+takenBank settings ps = record { found = Accepted; settings = settings; patterns = laidOut (takenOf settings ps) }
 
 abbrev pub ReadsBack : Settings → Patterns → Written → List ℕ → Type 0
-ReadsBack s ps w out = (n : ℕ) → w ≡ Length n → readOf (take n out) ≡ takenBank s ps
+ReadsBack settings ps written out = (size : ℕ) → written ≡ Length size → readOf (take size out) ≡ takenBank settings ps
 
 -- "an accepted bank written again has the same bytes"; a bank that is not accepted gives its refusal
 unfoldable pub rewriteOf : List ℕ → List ℕ → After

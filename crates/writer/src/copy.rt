@@ -2,12 +2,10 @@
 ghost use mathlib.Core.Path.{_≡_};
 ghost use Prim.Native.Nat.{_+_, _≤_};
 ghost use lib.Seq.{sets};
-ghost use Rattle.field.specs.Field.{field};
 ghost use Rattle.bank.specs.View.{noStep, stepOf, patternsOf};
 ghost use Rattle.field.specs.Tab.{tab};
-ghost use Rattle.bank.specs.Check.{foundIn};
-ghost use Rattle.setting.specs.declared.Checked.{Checked};
 ghost use Rattle.writer.specs.Read.{laidOut, refusedAs};
+ghost use Rattle.writer.specs.Asked.{Counted};
 use crate::Bank;
 use crate::Patterns;
 use bank::Step;
@@ -16,14 +14,14 @@ use setting::Checked;
 
 // The step that stands where there is none.
 fn no_step() -> Step
-    ensures { λ r. ⌜ r ≡ noStep ⌝ }
+    ensures { λ result. ⌜ result ≡ noStep ⌝ }
 {
     bank::step_at(b"", 0)
 }
 
 // A refusal, and nothing.
 pub fn refused(found: Checked) -> Bank
-    ensures { λ r. ⌜ r ≡ refusedAs found ⌝ }
+    ensures { λ result. ⌜ result ≡ refusedAs found ⌝ }
 {
     let none = no_step();
     Bank {
@@ -40,7 +38,7 @@ pub fn refused(found: Checked) -> Bank
 // The s steps of pattern p, copied to place base.
 fn with_steps(steps: [Step; 99], base: usize, bank: &[u8], p: u8, s: u8) -> [Step; 99]
     requires { ⌜ base + s ≤ 99 ⌝ }
-    ensures { λ r. ⌜ r ≡ sets steps base (tab (stepOf (now (bank .entry)) p) 1 1 s) ⌝ }
+    ensures { λ result. ⌜ result ≡ sets steps base (tab (stepOf (now (bank .entry)) p) 1 1 s) ⌝ }
 {
     let mut out = steps;
     let mut k: u8 = 0;
@@ -54,8 +52,8 @@ fn with_steps(steps: [Step; 99], base: usize, bank: &[u8], p: u8, s: u8) -> [Ste
 
 // The n patterns of an accepted bank.
 pub fn patterns(bank: &[u8], n: u8) -> Patterns
-    requires { ⌜ (foundIn (now bank) ≡ Checked.Accepted) × (n ≡ field 1 (now bank) 0) ⌝ }
-    ensures { λ r. ⌜ r ≡ laidOut (patternsOf (now (bank .entry))) ⌝ }
+    requires { ⌜ Counted (now bank) n ⌝ }
+    ensures { λ result. ⌜ result ≡ laidOut (patternsOf (now (bank .entry))) ⌝ }
 {
     let none = no_step();
     let mut runs = [0u8; 15];

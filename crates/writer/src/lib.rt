@@ -39,29 +39,29 @@ pub enum Written {
 
 // The bank of settings and patterns is written at the front of a buffer. A refusal leaves the buffer, and bytes past the bank's end
 // stay. What was written reads as what was taken.
-pub fn write(s: Settings, ps: Patterns, out: &mut [u8]) -> Written
-    ensures { λ r. ⌜ after r (now (out .exit)) ≡ writeOf s ps (now (out .entry)) ⌝ }
-    ensures { λ r. ⌜ ReadsBack s ps r (now (out .exit)) ⌝ }
+pub fn write(settings: Settings, ps: Patterns, out: &mut [u8]) -> Written
+    ensures { λ result. ⌜ after result (now (out .exit)) ≡ writeOf settings ps (now (out .entry)) ⌝ }
+    ensures { λ result. ⌜ ReadsBack settings ps result (now (out .exit)) ⌝ }
 {
-    let settings = check_settings(s);
-    let Checked::Accepted = settings else {
-        return Written::Refused(settings);
+    let found = check_settings(settings);
+    let Checked::Accepted = found else {
+        return Written::Refused(found);
     };
-    let patterns = check_patterns(s, ps);
-    let Checked::Accepted = patterns else {
-        return Written::Refused(patterns);
+    let wrong = check_patterns(settings, ps);
+    let Checked::Accepted = wrong else {
+        return Written::Refused(wrong);
     };
-    let size = 45 + 6 * (s.patterns as usize) + 9 * count_steps(s, ps);
+    let size = 45 + 6 * (settings.patterns as usize) + 9 * count_steps(settings, ps);
     if out.len() < size {
         return Written::Full;
     }
-    put_bank(out, s, ps);
+    put_bank(out, settings, ps);
     Written::Length(size as u16)
 }
 
 // A bank read: its settings and patterns, or its refusal and nothing.
 pub fn read(bank: &[u8]) -> Bank
-    ensures { λ r. ⌜ given r ≡ given (readOf (now (bank .entry))) ⌝ }
+    ensures { λ result. ⌜ given result ≡ given (readOf (now (bank .entry))) ⌝ }
 {
     let found = bank::check(bank);
     let Checked::Accepted = found else {
@@ -78,7 +78,7 @@ pub fn read(bank: &[u8]) -> Bank
 
 // A bank is read, and written again at the front of a buffer: an accepted one has the same bytes there, any other gives its refusal.
 pub fn rewrite(bank: &[u8], out: &mut [u8]) -> Written
-    ensures { λ r. ⌜ after r (now (out .exit)) ≡ rewriteOf (now (bank .entry)) (now (out .entry)) ⌝ }
+    ensures { λ result. ⌜ after result (now (out .exit)) ≡ rewriteOf (now (bank .entry)) (now (out .entry)) ⌝ }
 {
     let whole = read(bank);
     let judged = whole.found;

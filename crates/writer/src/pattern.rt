@@ -12,11 +12,11 @@ use setting::Checked;
 use setting::Settings;
 
 // The n patterns: the first wrong field ends both loops, with its place.
-pub fn check_patterns(s: Settings, ps: Patterns) -> Checked
-    requires { ⌜ settingsFound s ≡ Checked.Accepted ⌝ }
-    ensures { λ r. ⌜ r ≡ bodiesFound (withinCapacity (s .patterns)) (s .low) (s .high) 1 (takenOf s ps) ⌝ }
+pub fn check_patterns(settings: Settings, ps: Patterns) -> Checked
+    requires { ⌜ settingsFound settings ≡ Checked.Accepted ⌝ }
+    ensures { λ result. ⌜ result ≡ bodiesFound (withinCapacity (settings .patterns)) (settings .low) (settings .high) 1 (takenOf settings ps) ⌝ }
 {
-    let n = s.patterns;
+    let n = settings.patterns;
     let most = capacity(n);
     let mut base: usize = 0;
     let mut p: u8 = 0;
@@ -32,7 +32,7 @@ pub fn check_patterns(s: Settings, ps: Patterns) -> Checked
         let mut k: usize = 0;
         while k < count {
             let step = ps.steps[base + k];
-            if !check_step(s.low, s.high, step) {
+            if !check_step(settings.low, settings.high, step) {
                 break 'walk Checked::Body(p + 1, (k + 1) as u8);
             }
             k += 1;
@@ -43,11 +43,11 @@ pub fn check_patterns(s: Settings, ps: Patterns) -> Checked
 }
 
 // The number of steps of the n patterns.
-pub fn count_steps(s: Settings, ps: Patterns) -> usize
-    requires { ⌜ wrongIn s (takenOf s ps) ≡ Checked.Accepted ⌝ }
-    ensures { λ r. ⌜ r ≡ length (allSteps (takenOf s ps)) ⌝ }
+pub fn count_steps(settings: Settings, ps: Patterns) -> usize
+    requires { ⌜ wrongIn settings (takenOf settings ps) ≡ Checked.Accepted ⌝ }
+    ensures { λ result. ⌜ result ≡ length (allSteps (takenOf settings ps)) ⌝ }
 {
-    let n = s.patterns as usize;
+    let n = settings.patterns as usize;
     let mut base: usize = 0;
     let mut p: usize = 0;
     while p < n {

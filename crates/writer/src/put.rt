@@ -6,29 +6,30 @@ ghost use lib.ListN.{length, take, drop, replicate};
 ghost use lib.Seq.{sets};
 ghost use Rattle.field.specs.Row.{row};
 ghost use Rattle.writer.specs.Encode.{settingWidths, settingNumbers, paired, stepWidths, stepNumbers, stepsBytes, bodiesBytes, pairsBytes, encode};
-ghost use Rattle.writer.specs.Write.{takenOf, wrongIn};
+ghost use Rattle.writer.specs.Write.{takenOf};
+ghost use Rattle.writer.specs.Asked.{Room, BodyRoom};
 use crate::Patterns;
 use bank::Step;
 use field::bits;
-use field::put_row;
 use setting::Checked;
 use setting::Settings;
+use stored::put_row;
 
 // The settings up to the filter constant.
-fn put_head(out: &mut [u8], s: Settings)
+fn put_head(out: &mut [u8], settings: Settings)
     requires { ⌜ 45 ≤ length (now out) ⌝ }
-    ensures { λ _. ⌜ now (out .exit) ≡ sets (now (out .entry)) 0 (row (take 8 settingWidths) (take 8 (settingNumbers s))) ⌝ }
+    ensures { λ _. ⌜ now (out .exit) ≡ sets (now (out .entry)) 0 (row (take 8 settingWidths) (take 8 (settingNumbers settings))) ⌝ }
 {
     let widths = [1u8, 1, 1, 2, 2, 2, 2, 2];
     let numbers = [
-        s.patterns as u32,
-        s.start as u32,
-        s.outage as u32,
-        bits(s.low) as u32,
-        bits(s.high) as u32,
-        bits(s.initial) as u32,
-        s.width as u32,
-        s.filter as u32,
+        settings.patterns as u32,
+        settings.start as u32,
+        settings.outage as u32,
+        bits(settings.low) as u32,
+        bits(settings.high) as u32,
+        bits(settings.initial) as u32,
+        settings.width as u32,
+        settings.filter as u32,
     ];
     put_row(out, 0, &widths, &numbers);
 }
@@ -53,25 +54,25 @@ fn put_halves(out: &mut [u8], at: usize, xs: [u16; 4], ys: [u16; 4])
 }
 
 // The settings.
-fn put_settings(out: &mut [u8], s: Settings)
+fn put_settings(out: &mut [u8], settings: Settings)
     requires { ⌜ 45 ≤ length (now out) ⌝ }
-    ensures { λ _. ⌜ now (out .exit) ≡ sets (now (out .entry)) 0 (row settingWidths (settingNumbers s)) ⌝ }
+    ensures { λ _. ⌜ now (out .exit) ≡ sets (now (out .entry)) 0 (row settingWidths (settingNumbers settings)) ⌝ }
 {
-    put_head(out, s);
-    let zones = s.zones;
-    let waits = s.waits;
+    put_head(out, settings);
+    let zones = settings.zones;
+    let waits = settings.waits;
     put_halves(out, 13, zones, waits);
-    let on = s.on;
-    let off = s.off;
+    let on = settings.on;
+    let off = settings.off;
     put_halves(out, 29, on, off);
 }
 
 // The pairs of body offset and length: the first body is due behind the pairs, each next where the one before ends.
-fn put_pairs(out: &mut [u8], s: Settings, ps: Patterns)
-    requires { ⌜ (wrongIn s (takenOf s ps) ≡ Checked.Accepted) × (45 + 4 * s .patterns ≤ length (now out)) ⌝ }
-    ensures { λ _. ⌜ now (out .exit) ≡ sets (now (out .entry)) 45 (pairsBytes (45 + 4 * s .patterns) (takenOf s ps)) ⌝ }
+fn put_pairs(out: &mut [u8], settings: Settings, ps: Patterns)
+    requires { ⌜ Room settings ps (45 + 4 * settings .patterns) (now out) ⌝ }
+    ensures { λ _. ⌜ now (out .exit) ≡ sets (now (out .entry)) 45 (pairsBytes (45 + 4 * settings .patterns) (takenOf settings ps)) ⌝ }
 {
-    let n = s.patterns as usize;
+    let n = settings.patterns as usize;
     let widths = [2u8, 2];
     let mut due = 45 + 4 * n;
     let mut p: usize = 0;
@@ -86,26 +87,26 @@ fn put_pairs(out: &mut [u8], s: Settings, ps: Patterns)
 }
 
 // A step, at an offset.
-fn put_step(out: &mut [u8], at: usize, s: Step)
+fn put_step(out: &mut [u8], at: usize, step: Step)
     requires { ⌜ at + 9 ≤ length (now out) ⌝ }
-    ensures { λ _. ⌜ now (out .exit) ≡ sets (now (out .entry)) at (row stepWidths (stepNumbers s)) ⌝ }
+    ensures { λ _. ⌜ now (out .exit) ≡ sets (now (out .entry)) at (row stepWidths (stepNumbers step)) ⌝ }
 {
     let widths = [2u8, 2, 1, 1, 1, 1, 1];
     let numbers = [
-        bits(s.target) as u32,
-        s.minutes as u32,
-        s.wait as u32,
-        s.signals[0] as u32,
-        s.signals[1] as u32,
-        s.signals[2] as u32,
-        s.signals[3] as u32,
+        bits(step.target) as u32,
+        step.minutes as u32,
+        step.wait as u32,
+        step.signals[0] as u32,
+        step.signals[1] as u32,
+        step.signals[2] as u32,
+        step.signals[3] as u32,
     ];
     put_row(out, at, &widths, &numbers);
 }
 
 // The body of a pattern, whose steps stand from place base on, at an offset.
 fn put_body(out: &mut [u8], at: usize, runs: u8, count: u8, steps: [Step; 99], base: usize)
-    requires { ⌜ (base + count ≤ 99) × (at + (2 + 9 * count) ≤ length (now out)) ⌝ }
+    requires { ⌜ BodyRoom base count at (now out) ⌝ }
     ensures { λ _. ⌜ now (out .exit) ≡ sets (now (out .entry)) at (row (1 ∷ 1 ∷ []) (runs ∷ count ∷ []) ++ stepsBytes (take count (drop base steps))) ⌝ }
 {
     let widths = [1u8, 1];
@@ -121,11 +122,11 @@ fn put_body(out: &mut [u8], at: usize, runs: u8, count: u8, steps: [Step; 99], b
 }
 
 // The bodies of the n patterns, from an offset on.
-fn put_bodies(out: &mut [u8], from: usize, s: Settings, ps: Patterns)
-    requires { ⌜ (wrongIn s (takenOf s ps) ≡ Checked.Accepted) × (from + length (bodiesBytes (takenOf s ps)) ≤ length (now out)) ⌝ }
-    ensures { λ _. ⌜ now (out .exit) ≡ sets (now (out .entry)) from (bodiesBytes (takenOf s ps)) ⌝ }
+fn put_bodies(out: &mut [u8], from: usize, settings: Settings, ps: Patterns)
+    requires { ⌜ Room settings ps (from + length (bodiesBytes (takenOf settings ps))) (now out) ⌝ }
+    ensures { λ _. ⌜ now (out .exit) ≡ sets (now (out .entry)) from (bodiesBytes (takenOf settings ps)) ⌝ }
 {
-    let n = s.patterns as usize;
+    let n = settings.patterns as usize;
     let mut at = from;
     let mut base: usize = 0;
     let mut p: usize = 0;
@@ -139,11 +140,11 @@ fn put_bodies(out: &mut [u8], from: usize, s: Settings, ps: Patterns)
 }
 
 // The whole bank, at the front.
-pub fn put_bank(out: &mut [u8], s: Settings, ps: Patterns)
-    requires { ⌜ (wrongIn s (takenOf s ps) ≡ Checked.Accepted) × (length (encode s (takenOf s ps)) ≤ length (now out)) ⌝ }
-    ensures { λ _. ⌜ now (out .exit) ≡ sets (now (out .entry)) 0 (encode s (takenOf s ps)) ⌝ }
+pub fn put_bank(out: &mut [u8], settings: Settings, ps: Patterns)
+    requires { ⌜ Room settings ps (length (encode settings (takenOf settings ps))) (now out) ⌝ }
+    ensures { λ _. ⌜ now (out .exit) ≡ sets (now (out .entry)) 0 (encode settings (takenOf settings ps)) ⌝ }
 {
-    put_settings(out, s);
-    put_pairs(out, s, ps);
-    put_bodies(out, 45 + 4 * (s.patterns as usize), s, ps);
+    put_settings(out, settings);
+    put_pairs(out, settings, ps);
+    put_bodies(out, 45 + 4 * (settings.patterns as usize), settings, ps);
 }

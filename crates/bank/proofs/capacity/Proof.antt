@@ -19,9 +19,9 @@ use Rattle.bank.proofs.capacity.Tie as tie
 table : List ℕ
 table = 99 ∷ 49 ∷ 33 ∷ 24 ∷ 19 ∷ 16 ∷ 14 ∷ 12 ∷ 11 ∷ 9 ∷ 9 ∷ 8 ∷ 7 ∷ 7 ∷ 6 ∷ []
 
--- the entry at place k is for k + 1 patterns
+-- the entry at a place, counted from 0, is for one pattern more
 rule : ℕ → ℕ → Bool
-rule k x = eqb x (capacityOf (k + 1))
+rule place x = eqb x (capacityOf (place + 1))
 
 returns : tie.Need-returns
 unfolding capacityOf between
@@ -39,9 +39,9 @@ returns-3 : tie.Need-returns-3
 unfolding table rule capacityOf between both
 returns-3 c =
     let n = c .before .before .args .n in
-    let k = n - 1 in
-    let e : k + 1 ≡ n = omega arith in
-    eqb-true (getD table k 0) (capacityOf (k + 1)) (at rule table refl k (omega arith)) ∙ ap capacityOf e
+    let place = n - 1 in
+    let same : place + 1 ≡ n = omega arith in
+    eqb-true (getD table place 0) (capacityOf (place + 1)) (at rule table refl place (omega arith)) ∙ ap capacityOf same
 
 pub capacity-spec : {M : Type 1} → statement M
 capacity-spec =

@@ -7,10 +7,10 @@ use Rattle.bank_example.proofs.difference.Statement.{statement}
 use Rattle.bank_example.proofs.difference.Tie as tie
 
 abbrev Inv-loop : tie.InvT-loop
-Inv-loop a b i₀ i = i ≤ length a
+Inv-loop written stored i₀ i = i ≤ length written
 
 abbrev μ-loop : tie.MeasureT-loop
-μ-loop a b i₀ i = length a - i
+μ-loop written stored i₀ i = length written - i
 
 loop-holds : tie.Need-loop-holds Inv-loop μ-loop
 loop-holds c = search needs

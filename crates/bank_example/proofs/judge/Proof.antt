@@ -58,7 +58,9 @@ array-share-prefix-buffer-2 : tie.Need-array-share-prefix-buffer-2
 array-share-prefix-buffer-2 c = search needs
 
 slice-aggregate-compare : tie.Need-slice-aggregate-compare
-slice-aggregate-compare c = front (c .before .before .before .before .before .before .before .before .before .before .before .before .before .before .before) (c .before .before .before .before .before .before .before .before .before .before .before .before .before .before .if1 .left)
+slice-aggregate-compare c =
+    let tested = c .before .before .before .before .before .before .before .before .before .before .before .before .before .before in
+    front (tested .before) (tested .if1 .left)
 
 array-share-prefix-stored : tie.Need-array-share-prefix-stored
 array-share-prefix-stored c = search needs

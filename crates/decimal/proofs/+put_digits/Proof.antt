@@ -3,7 +3,7 @@
 use Prim.Native.Nat.{ℕ, _-_, _/_, _<_}
 use native.Mathlib.Omega.{arith}
 use lib.ListN.{length-set}
-use Rattle.decimal.proofs.Laws.{length-decimal, no-digits, first-digit, last-digit}
+use Rattle.decimal.proofs.Laws.{end-is, length-decimal, no-digits, first-digit, last-digit}
 use borrow.Fn.Kinds.{In}
 use borrow.Fn.PlainCycle.{Measures, is, falls, and}
 use Rattle.decimal.proofs.put_digits.Reads as put-digits
@@ -23,22 +23,26 @@ module _ (t : ℕ) where
   shorter = and 1 put-digits-kinds.ps (falls 1 put-digits-kinds.ps _<_ μ-put-digits t) put-digits.Pre
 
   returns : lts.Need-returns (shorter, put-digits.Post) whole put-digits.Post
-  returns c = let a = c .before .before .args in no-digits (a .out .now) (a .at) (a .w) (a .n) (c .if1 .taken)
+  returns c = let a = c .before .before .args in no-digits (a .out .now) (a .at) (a .most) (a .value) (c .if1 .taken)
 
   slice-write-2 : lts.Need-slice-write-out-2 (shorter, put-digits.Post) whole put-digits.Post
-  slice-write-2 c = let a = c .before .before .before .before .before .before .before .args in omega (arith, length-decimal (a .w - 1) (a .n / 10))
+  slice-write-2 c =
+      let a = c .before .before .before .before .before .before .before .args in
+      omega (arith, length-decimal (a .most - 1) (a .value / 10), end-is (c .before .before .put-digits .ensures))
 
   add-2 : lts.Need-add-result-2 (shorter, put-digits.Post) whole put-digits.Post
-  add-2 c = let a = c .before .before .before .before .before .before .before .args in omega (arith, length-decimal (a .w - 1) (a .n / 10))
+  add-2 c =
+      let a = c .before .before .before .before .before .before .before .args in
+      omega (arith, length-decimal (a .most - 1) (a .value / 10), end-is (c .before .before .put-digits .ensures))
 
   returns-2 : lts.Need-returns-2 (shorter, put-digits.Post) whole put-digits.Post
-  returns-2 c = let a = c .before .before .before .args in first-digit (a .out .now) (a .at) (a .w) (a .n) (omega arith) (omega arith)
+  returns-2 c = let a = c .before .before .before .args in first-digit (a .out .now) (a .at) (a .most) (a .value) (omega arith) (omega arith)
 
   returns-3 : lts.Need-returns-3 (shorter, put-digits.Post) whole put-digits.Post
   returns-3 c =
       let a = c .before .before .before .before .before .before .before .args in
-      let p = c .before .before .put-digits in
-      last-digit (a .out .now) (a .at) (a .w) (a .n) (omega arith) (omega arith) (p .last .0) (p .result) (p .ensures .0) (p .ensures .1)
+      let before = c .before .before .put-digits in
+      last-digit (a .out .now) (a .at) (a .most) (a .value) (omega arith) (omega arith) (before .ensures)
 
 pub +put-digits-spec : {M : Type 1} → statement M
 +put-digits-spec =

@@ -12,12 +12,12 @@ use Rattle.field.proofs.long.Tie as tie
 returns-2 : tie.Need-returns-2
 returns-2 c =
     let a = c .before .before .before .before .before .before .before .args in
-    let b = now (a .b) in
+    let buffer = now (a .buffer) in
     let i = a .at in
-    omega (arith, field-four b i, field-one b i, field-one b (i + 1), field-one b (i + 2), field-one b (i + 3), field-past 1 b (i + 3) (omega arith))
+    omega (arith, field-four buffer i, field-one buffer i, field-one buffer (i + 1), field-one buffer (i + 2), field-one buffer (i + 3), field-past 1 buffer (i + 3) (omega arith))
 
 returns-3 : tie.Need-returns-3
-returns-3 c = let a = c .before .before .args in sym (field-past 4 (now (a .b)) (a .at) (c .if1 .left))
+returns-3 c = let a = c .before .before .args in sym (field-past 4 (now (a .buffer)) (a .at) (c .if1 .left))
 
 pub long-spec : {M : Type 1} → statement M
 long-spec =

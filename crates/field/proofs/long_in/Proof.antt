@@ -8,7 +8,7 @@ use Rattle.field.proofs.long_in.Statement.{statement}
 use Rattle.field.proofs.long_in.Tie as tie
 
 returns : tie.Need-returns
-returns c = let a = c .before .before .before .before .before .before .args in omega (arith, field-four (now (a .b)) (a .at))
+returns c = let a = c .before .before .before .before .before .before .args in omega (arith, field-four (now (a .buffer)) (a .at))
 
 pub long-in-spec : {M : Type 1} → statement M
 long-in-spec =

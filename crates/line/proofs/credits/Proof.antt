@@ -2,7 +2,7 @@
 -- Assumes nothing.
 use borrow.Author.Needs.{needs}
 use borrow.Author.Tests.{lt-leb, le-leb}
-use Rattle.line.specs.Part.{written, creditsOf}
+use Rattle.line.specs.Part.{creditsOf}
 use Rattle.line.proofs.credits.Statement.{statement}
 use Rattle.line.proofs.credits.Tie as tie
 
@@ -12,9 +12,7 @@ returns c = rw (lt-leb 4158 _ (c .if1 .taken))
 
 returns-2 : tie.Need-returns-2
 unfolding creditsOf
-returns-2 c =
-    let e = c .before .before .put-credits .ensures in
-    rw (le-leb 4158 _ (c .before .before .before .before .if1 .left)) (λ i. written (e .0 i) (e .1 i))
+returns-2 c = rw (le-leb 4158 _ (c .before .before .before .before .if1 .left)) (c .before .before .put-credits .ensures)
 
 pub credits-spec : {M : Type 1} → statement M
 credits-spec = tie.close (tie.spec returns (λ c κs. search needs) (λ c. search needs) returns-2)

@@ -6,6 +6,7 @@ use borrow.Author.Needs.{needs}
 use borrow.Author.Tests.{lt-leb, le-leb, ne-eqb}
 use denote.Ref.{now}
 use lib.ListN.{length, take, length-take}
+use Rattle.plain.specs.Setup.{over}
 use Rattle.line.specs.Part.{found, endOf, finishOf}
 use Rattle.line.proofs.Laws.{line-leaves}
 use Rattle.line.proofs.finish.Statement.{statement}
@@ -26,14 +27,17 @@ returns-2 c = rw (le-leb 168 _ (c .before .before .if1 .left), c .if2 .taken)
 returns-3 : tie.Need-returns-3
 unfolding finishOf endOf
 returns-3 c =
-    let start = c .before .before .before .before .before .before .before .before .before .before .before .before .before in
-    let x = start .args .between in
-    let d = now (start .args .store) in
-    let out = now (start .args .out) in
-    let room = c .before .before .before .before .before .before .before .before .before .if1 .left in
-    let kept = c .before .before .before .before .before .before .before .if2 .left in
-    rw (le-leb 168 _ room, ne-eqb (length (take (x .kept) (x .line))) 0 (λ e. kept (omega (arith, length-take (x .kept) (x .line), long start))))
-    (line-leaves (now (start .args .bank)) x d out 0 (found x d) out refl (c .before .before .before .before .take-line .ensures))
+    let kept = c .before .before .before .before .before .before .before in
+    let start = kept .before .before .before .before .before .before in
+    let a = start .args in
+    let between = a .between in
+    let store = now (a .store) in
+    let out = now (a .out) in
+    let line = take (between .kept) (between .line) in
+    let some = ne-eqb (length line) 0 (λ h. kept .if2 .left (omega (arith, length-take (between .kept) (between .line), long start))) in
+    rw (le-leb 168 _ (kept .before .before .if1 .left), some)
+    (line-leaves (over (now (a .bank))) (record { between = between; end = 0 }) store out (found between store) out refl
+    (c .before .before .before .before .take-line .ensures))
 
 pub finish-spec : {M : Type 1} → statement M
 finish-spec =

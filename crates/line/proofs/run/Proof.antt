@@ -8,59 +8,69 @@ use borrow.Author.Tests.{lt-leb, le-leb}
 use denote.Ref.{now}
 use lib.ListN.{length, take, getD}
 use lib.Seq.{take-all}
+use Rattle.plain.specs.Setup.{Setup, over}
+use Rattle.line.specs.declared.Between.{Between}
+use Rattle.line.specs.declared.Ran.{Ran}
 use Rattle.line.specs.Part.{Sheet, partOf, After, after, found, leaving, runOf}
 use Rattle.line.proofs.Laws.{byte-leaves, part-more, length-byte}
 use Rattle.line.proofs.run.Statement.{statement}
 use Rattle.line.proofs.run.Tie as tie
 
+record Taken (setup : Setup) (store₀ input out₀ : List ℕ) (between : Between) (store out : List ℕ) (ran : Ran) (i : ℕ) : Type 0 where
+  pub within : i ≤ length input
+  pub sized : length store ≡ length store₀
+  pub long : length out ≡ length out₀
+  pub room : ran .end ≤ 168 * i
+  pub leaves : after ran store out ≡ leaving (partOf setup (found between store₀) (take i input)) out₀
+
 abbrev Inv-loop : tie.InvT-loop
-Inv-loop bank store₀ input out₀ x₀ i₀ store out x i =
-    (i ≤ length input) × (length store ≡ length store₀) × (length out ≡ length out₀) × (x .end ≤ 168 * i)
-    × (after (x .between) store out (x .end) ≡ leaving (partOf bank (found (x₀ .between) store₀) (take i input)) out₀)
+Inv-loop bank store₀ input out₀ ran₀ i₀ store out ran i = Taken (over bank) store₀ input out₀ (ran₀ .between) store out ran i
 
 abbrev μ-loop : tie.MeasureT-loop
-μ-loop bank store₀ input out₀ x₀ i₀ store out x i = length input - i
+μ-loop bank store₀ input out₀ ran₀ i₀ store out ran i = length input - i
 
 returns : tie.Need-returns Inv-loop μ-loop
 unfolding runOf
 returns c =
-    let start = c .before .before .before .before .before in
-    rw (lt-leb (168 * length (now (start .args .input))) (length (now (start .args .out))) (omega arith))
+    let a = c .before .before .before .before .before .args in
+    rw (lt-leb (168 * length (now (a .input))) (length (now (a .out))) (omega arith))
 
 loop-holds : tie.Need-loop-holds Inv-loop μ-loop
 unfolding partOf
-loop-holds c = (omega arith, refl, refl, omega arith, refl)
+loop-holds c = record { within = omega arith; sized = refl; long = refl; room = omega arith; leaves = refl }
 
 loop-again : tie.Need-loop-again Inv-loop μ-loop
 loop-again c =
-    let start = c .before .before .before .before .before .before .before .before .before .before .before .before .before .before .before in
-    let b = now (start .args .bank) in
-    let input = now (start .args .input) in
-    let out₀ = now (start .args .out) in
-    let l = c .before .before .before .before .before .before .before .before .before .loop in
-    let t = c .before .before .before .before .take in
-    let begun = found (start .args .between) (now (start .args .store)) in
-    let y = partOf b begun (take (l .i) input) in
-    let k = getD input (l .i) 0 in
-    let h = c .before .before .before .before .before .before .before .before .loop-test .taken in
-    let e = byte-leaves b (l .x .between) (l .store) (l .out) (l .x .end) y out₀ (l .inv .4) k (t .ensures) in (
-      omega arith,
-      t .kept .1 .0 ∙ l .inv .1,
-      t .kept .1 .1 .1 .1 .0 ∙ l .inv .2,
-      omega (arith, length-byte b y k, ap (λ (a : After). a .end) e, ap (λ (a : After). a .end) (l .inv .4)),
-      e ∙ ap (λ (x : Sheet). leaving x out₀) (sym (part-more b begun input (l .i) h)),
-    )
+    let test = c .before .before .before .before .before .before .before .before in
+    let l = test .before .loop in
+    let a = test .before .before .before .before .before .before .before .args in
+    let setup = over (now (a .bank)) in
+    let input = now (a .input) in
+    let out₀ = now (a .out) in
+    let taken = c .before .before .before .before .take in
+    let begun = found (a .between) (now (a .store)) in
+    let sheet = partOf setup begun (take (l .i) input) in
+    let byte = getD input (l .i) 0 in
+    let left = byte-leaves setup (l .ran) (l .store) (l .out) sheet out₀ (l .inv .leaves) byte (taken .ensures) in
+    let end : After → ℕ = λ x. x .end in
+    record {
+      within = omega arith;
+      sized = taken .kept .1 .0 ∙ l .inv .sized;
+      long = taken .kept .1 .1 .1 .1 .0 ∙ l .inv .long;
+      room = omega (arith, length-byte setup sheet byte, ap end left, ap end (l .inv .leaves), l .inv .room);
+      leaves = left ∙ ap (λ (x : Sheet). leaving x out₀) (sym (part-more setup begun input (l .i) (test .loop-test .taken)));
+    }
 
 returns-2 : tie.Need-returns-2 Inv-loop μ-loop
 unfolding runOf
 returns-2 c =
-    let start = c .before .before .before .before .before .before .before in
+    let a = c .before .before .before .before .before .before .before .args in
     let l = c .before .loop in
-    let input = now (start .args .input) in
-    let begun = found (start .args .between) (now (start .args .store)) in
+    let input = now (a .input) in
+    let begun = found (a .between) (now (a .store)) in
     let whole : take (l .i) input ≡ input = take-all (l .i) input (omega arith) in
-    rw (le-leb (168 * length input) (length (now (start .args .out))) (omega arith))
-    (l .inv .4 ∙ ap (λ (cs : List ℕ). leaving (partOf (now (start .args .bank)) begun cs) (now (start .args .out))) whole)
+    rw (le-leb (168 * length input) (length (now (a .out))) (omega arith))
+    (l .inv .leaves ∙ ap (λ (cs : List ℕ). leaving (partOf (over (now (a .bank))) begun cs) (now (a .out))) whole)
 
 pub run-spec : {M : Type 1} → statement M
 run-spec =

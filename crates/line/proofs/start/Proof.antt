@@ -1,60 +1,59 @@
 -- `line::start` meets its contract, for a refused bank and for an accepted one.
 -- Assumes nothing.
-use Prim.Native.Nat.{ℕ}
-use mathlib.Core.Bool.{cond}
-use mathlib.Core.List.{List, []}
+use mathlib.Core.List.{[]}
 use mathlib.Core.Path.{refl, sym, ap, _∙_}
 use borrow.Author.Needs.{needs}
 use denote.Ref.{now}
-use lib.Dec.{leb}
-use lib.ListN.{length}
 use Rattle.setting.specs.Found.{isAccepted}
+use Rattle.setting.proofs.Laws.{is-refused, accepted, unless-refused, unless-accepted, numbers-tell}
 use Rattle.bank.specs.Check.{foundIn}
-use Rattle.setting.specs.declared.Checked.{Checked}
-use Rattle.setting.proofs.Laws.{is-refused, accepted, unless-refused, numbers-tell}
-use Rattle.controller.specs.Event.{left, dark, makeOf}
-use Rattle.controller.specs.declared.Answer.{Answer}
-use Rattle.line.specs.Text.{refusal}
+use Rattle.plain.specs.Setup.{over}
+use Rattle.controller.specs.Holds.{after}
+use Rattle.line.specs.Part.{refusalIn}
 use Rattle.line.proofs.Laws.{begins}
 use Rattle.line.proofs.start.Statement.{statement}
 use Rattle.line.proofs.start.Tie as tie
 
 returns : tie.Need-returns
-unfolding makeOf
 returns c =
-    let start = c .before .before .before .before .before .before .before .before .before .before .before in
-    let b = now (start .args .bank) in
-    let d = now (start .args .store) in
-    let k = c .before .before .before .before .before .before .before .check in
-    let e = numbers-tell (k .result) (foundIn b) (k .ensures) in
-    let n = sym (ap isAccepted e) ∙ is-refused (k .result) (c .before .before .before .before .before .before .match .keys2) in
-    let w = c .before .before .before .before .empty .ensures in
-    let text : Checked → List ℕ = λ f. cond (leb 168 (length (now (start .args .out)))) (refusal f) [] in (
-      begins _ b d (now (start .args .out)) {m = left dark d (Answer.Bank (foundIn b))} (text (k .result)) (rw n) (unless-refused text [] n ∙ sym (ap text e))
-          (w .0 ∙ c .before .before .before .before .before .dark-state .ensures, w .1) (c .before .before .put-refusal .ensures),
-      sym n,
-    )
+    let checked = c .before .before .before .before .before .check in
+    let made = c .before .before .before .before .before .before .before .before .before .make in
+    let a = c .before .before .before .before .before .before .before .before .before .before .before .before .before .before .args in
+    let bank = now (a .bank) in
+    let out = now (a .out) in
+    let same = numbers-tell (checked .result) (foundIn bank) (checked .ensures) in
+    let refused = sym (ap isAccepted same) ∙ is-refused (checked .result) (c .before .before .before .before .match .keys2) in
+    record {
+      is = begins (over bank) (now (a .store)) out (after (made .result .state) (made .last .1 .0) (made .result .answer))
+          (refusalIn out (checked .result)) (made .ensures) (ap (refusalIn out) same ∙ sym (unless-refused (refusalIn out) [] refused))
+          (c .before .before .put-refusal .ensures);
+      found = sym refused;
+    }
 
 returns-2 : tie.Need-returns-2
 returns-2 c =
-    let start = c .before .before .before .before .before .before .before .before .before .before .before .before in
-    let b = now (start .args .bank) in
-    let k = c .before .before .before .before .before .before .before .before .check in
-    let e = ap isAccepted (sym (numbers-tell (k .result) (foundIn b) (k .ensures)) ∙ accepted (k .result) (c .before .before .before .before .before .before .before .match .keys1)) in
-    (begins _ b _ (now (start .args .out)) [] (sym (c .before .before .before .before .make .ensures)) (rw e) (c .empty2 .ensures) (refl, refl), sym e)
+    let checked = c .before .before .check in
+    let made = c .before .before .before .before .before .before .make in
+    let a = c .before .before .before .before .before .before .before .before .before .before .before .args in
+    let bank = now (a .bank) in
+    let out = now (a .out) in
+    let right = sym (numbers-tell (checked .result) (foundIn bank) (checked .ensures)) ∙ accepted (checked .result) (c .before .match .keys1) in
+    record {
+      is = begins (over bank) (now (a .store)) out (after (made .result .state) (made .last .1 .0) (made .result .answer))
+          [] (made .ensures) (sym (unless-accepted (refusalIn out) [] right)) refl;
+      found = sym (ap isAccepted right);
+    }
 
 pub start-spec : {M : Type 1} → statement M
 start-spec =
     tie.close
     (tie.spec
     (λ c κs. search needs)
+    (λ c κs. search needs)
     (λ c. search needs)
     (λ c κs. search needs)
-    (λ c κs. search needs)
-    (λ c κs. search needs)
+    (λ c. search needs)
     (λ c. search needs)
     returns
-    (λ c κs. search needs)
-    (λ c κs. search needs)
     (λ c. search needs)
     returns-2)

@@ -1,7 +1,8 @@
--- `measure::after` meets its contract: each arm is given the constructors of r and m, at which `afterOf` computes, and the number that the machine reads back from its bits is the number.
+-- `measure::after` meets its contract: each arm is given the constructors of reading and m, at which `afterOf` computes, and the number that the machine reads back from its bits is the number.
+-- Assumes nothing.
 use borrow.Author.Needs.{needs}
 use borrow.Author.Tests.{ne-eqb}
-use mathlib.Core.Path.{_≡_}
+use mathlib.Core.Path.{_≡_, refl}
 use mir.Syntax.{w32}
 use mir.Val.{toZ, ofZ}
 use Rattle.measure.specs.Filter.{afterOf}
@@ -14,8 +15,8 @@ enum-told c = search needs
 enum-told-2 : tie.Need-enum-told-2
 enum-told-2 c = search needs
 
-enum-known-r : tie.Need-enum-known-r
-enum-known-r c = search needs
+enum-known-reading : tie.Need-enum-known-reading
+enum-known-reading c = search needs
 
 int-to-float-v : tie.Need-int-to-float-v
 int-to-float-v c = search needs
@@ -33,14 +34,14 @@ enum-known-m : tie.Need-enum-known-m
 enum-known-m c = search needs
 
 -- the machine reads the number back from its bits
-back : (c : tie.After-row-known) → toZ w32 (ofZ w32 (c .before .before .r .given .0 .0)) ≡ c .before .before .r .given .0 .0
+back : (c : tie.After-row-known) → toZ w32 (ofZ w32 (c .before .before .reading .given .0 .0)) ≡ c .before .before .reading .given .0 .0
 back c = search needs
 
 returns : tie.Need-returns
 unfolding afterOf
 returns c =
     let row = c .before .before .before .before in
-    simp (back row, row .before .before .r .given .1, c .before .before .m .given .1, c .if1 .taken)
+    simp (back row, row .before .before .reading .given .1, c .before .before .m .given .1, c .if1 .taken) refl
 
 lag-requires : tie.Need-lag-requires
 lag-requires c κs = search needs
@@ -60,25 +61,25 @@ returns-4 : tie.Need-returns-4
 unfolding afterOf
 returns-4 c =
     let row = c .before .before in
-    simp (back row, row .before .before .r .given .1, c .enum-told3 .given .1)
+    simp (back row, row .before .before .reading .given .1, c .enum-told3 .given .1) refl
 
 returns-5 : tie.Need-returns-5
 unfolding afterOf
 returns-5 c =
     let row = c .before .before in
-    simp (back row, row .before .before .r .given .1, c .enum-told4 .given .1)
+    simp (back row, row .before .before .reading .given .1, c .enum-told4 .given .1) refl
 
 returns-6 : tie.Need-returns-6
 unfolding afterOf
 returns-6 c =
     let row = c .before .before in
-    simp (back row, row .before .before .r .given .1, c .enum-told5 .given .1)
+    simp (back row, row .before .before .reading .given .1, c .enum-told5 .given .1) refl
 
 returns-7 : tie.Need-returns-7
 unfolding afterOf
 returns-7 c =
     let row = c .before .before .before .before .before .before in
-    simp (c .keep .ensures, c .before .lag .ensures, back row, row .before .before .r .given .1, c .before .before .before .before .m .given .1, ne-eqb _ _ (c .before .before .if1 .left))
+    simp (c .keep .ensures, c .before .lag .ensures, back row, row .before .before .reading .given .1, c .before .before .before .before .m .given .1, ne-eqb _ _ (c .before .before .if1 .left)) refl
 
 pub after-spec : {M : Type 1} → statement M
 after-spec =
@@ -86,7 +87,7 @@ after-spec =
     (tie.spec
     enum-told
     enum-told-2
-    enum-known-r
+    enum-known-reading
     int-to-float-v
     enum-told-3
     enum-told-4

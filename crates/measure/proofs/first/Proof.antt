@@ -1,4 +1,5 @@
 -- `measure::first` meets its contract: a first reading is one with no reading before it.
+-- Assumes nothing.
 use borrow.Author.Needs.{needs}
 use mathlib.Core.Path.{sym, _∙_}
 use Rattle.measure.proofs.Laws.{first-after}
@@ -9,7 +10,7 @@ after-requires : tie.Need-after-requires
 after-requires c κs = search needs
 
 returns : tie.Need-returns
-returns c = c .after .ensures ∙ sym (first-after (c .before .args .r) 0)
+returns c = c .after .ensures ∙ sym (first-after (c .before .args .reading) 0)
 
 pub first-spec : {M : Type 1} → statement M
 first-spec = tie.close (tie.spec after-requires returns)

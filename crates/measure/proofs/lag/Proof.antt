@@ -1,4 +1,5 @@
 -- `measure::lag` meets its contract: the definition's operations, in the code's order.
+-- Assumes nothing.
 use borrow.Author.Needs.{needs}
 use mathlib.Core.Path.{refl}
 use lib.Ieee.{ofBits}

@@ -1,4 +1,5 @@
 -- `measure::round` meets its contract: by the sign of y, where it is in range, and 0 elsewhere, as `nearest` has it.
+-- Assumes nothing.
 use borrow.Author.Needs.{needs}
 use mathlib.Core.Path.{_≡_, sym, ap, _∙_}
 use mathlib.Core.Bool.{true}
@@ -30,7 +31,7 @@ is c = simp (in-range c)
 -- ---- above 0
 half-up-requires : tie.Need-half-up-requires
 unfolding ofBits
-half-up-requires c κs = (in-range (c .before), c .if2 .taken)
+half-up-requires c κs = record { in-range = in-range (c .before); above = c .if2 .taken }
 
 returns : tie.Need-returns
 returns c = toZ-ofZ w16 _ (record { sfits = c .half-up .ok }) ∙ c .half-up .ensures ∙ sym (is (c .before .before))
@@ -41,14 +42,14 @@ unfolding ofBits
 other c = below (Y (c .before .before)) (inside (Y (c .before .before)) (in-range (c .before .before))) (c .if3 .taken)
 
 half-up-requires-2 : tie.Need-half-up-requires-2
-half-up-requires-2 c κs = (other c .ok, other c .over)
+half-up-requires-2 c κs = record { in-range = other c .ok; above = other c .over }
 
 -- MIR has `-x` as `0 - x`
-minus : (c : tie.After-half-up2) → pos 0 -ℤ toZ w16 (ofZ w16 (c .half-up2 .result)) ≡ negℤ (pos (other (c .before) .w))
-minus c = ap (λ (z : ℤ). pos 0 -ℤ z) (toZ-ofZ w16 _ (record { sfits = c .half-up2 .ok }) ∙ c .half-up2 .ensures ∙ other (c .before) .size) ∙ +ℤ-idl (negℤ (pos (other (c .before) .w)))
+minus : (c : tie.After-half-up2) → pos 0 -ℤ toZ w16 (ofZ w16 (c .half-up2 .result)) ≡ negℤ (pos (other (c .before) .whole))
+minus c = ap (λ (z : ℤ). pos 0 -ℤ z) (toZ-ofZ w16 _ (record { sfits = c .half-up2 .ok }) ∙ c .half-up2 .ensures ∙ other (c .before) .size) ∙ +ℤ-idl (negℤ (pos (other (c .before) .whole)))
 
 sub-result : tie.Need-sub-result
-sub-result c = rw (minus c) (minus-fits w16 (other (c .before) .w) (other (c .before) .short))
+sub-result c = rw (minus c) (minus-fits w16 (other (c .before) .whole) (other (c .before) .short))
 
 returns-2 : tie.Need-returns-2
 returns-2 c = toZ-ofZ w16 _ (sub-result c) ∙ minus c ∙ sym (other (c .before) .is) ∙ sym (is (c .before .before .before))
@@ -57,8 +58,8 @@ returns-2 c = toZ-ofZ w16 _ (sub-result c) ∙ minus c ∙ sym (other (c .before
 returns-3 : tie.Need-returns-3
 unfolding ofBits
 returns-3 c =
-    let s = c .before .before in
-    sym (is s ∙ at-nought (Y s) (inside (Y s) (in-range s)) (c .before .if2 .left) (c .if3 .left))
+    let start = c .before .before in
+    sym (is start ∙ at-nought (Y start) (inside (Y start) (in-range start)) (c .before .if2 .left) (c .if3 .left))
 
 returns-4 : tie.Need-returns-4
 unfolding nearest

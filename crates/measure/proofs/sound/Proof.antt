@@ -1,4 +1,5 @@
 -- `measure::sound` meets its contract: in each arm `soundOf` computes.
+-- Assumes nothing.
 use borrow.Author.Needs.{needs}
 use Rattle.measure.specs.Filter.{soundOf}
 use Rattle.measure.proofs.sound.Statement.{statement}

@@ -14,7 +14,7 @@ use Rattle.measure.proofs.whole_value.Tie as tie
 
 -- what is the whole value is near
 both : (m : Measured) {x : Whole} → x ≡ wholeOf m → (x ≡ wholeOf m) × Near m x
-both m e = (e, subst (Near m) (sym e) (whole-near m))
+both m same = (same, subst (Near m) (sym same) (whole-near m))
 
 returns : tie.Need-returns
 unfolding wholeOf

@@ -1,4 +1,5 @@
 -- `agreeing` is safe and ends: it reads at most 1000 lines.
+-- Assumes nothing.
 use borrow.Author.Needs.{needs}
 use Prim.Native.Nat.{_-_}
 use Rattle.measure_vectors.proofs.agreeing.Statement.{statement}

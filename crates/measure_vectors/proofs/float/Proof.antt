@@ -1,4 +1,5 @@
 -- `float` is safe: the test leaves out the patterns above an infinity's, which are the NaNs'.
+-- Assumes nothing.
 use borrow.Author.Needs.{needs}
 use borrow.Author.Tests.{le-ltb}
 use denote.Floats.{passes}

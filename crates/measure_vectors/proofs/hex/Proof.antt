@@ -1,4 +1,5 @@
 -- `hex` is safe and ends: each turn leaves one place fewer.
+-- Assumes nothing.
 use borrow.Author.Needs.{needs}
 use Prim.Native.Nat.{_-_}
 use Rattle.measure_vectors.proofs.hex.Statement.{statement}

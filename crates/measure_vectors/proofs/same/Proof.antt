@@ -1,4 +1,5 @@
 -- `same` is safe: only a NaN is not equal to itself.
+-- Assumes nothing.
 use borrow.Author.Needs.{needs}
 use mathlib.Core.Path.{_≡_, sym}
 use mathlib.Core.Bool.{true, not, true≢false}
@@ -10,8 +11,8 @@ use Rattle.measure_vectors.proofs.same.Tie as tie
 number : (y : Float) → eq y y ≡ true → T (not (isNan y))
 unfolding eq isNan
 number nan h = absurd (true≢false (sym h))
-number (inf s) h = tt
-number (fin s m e) h = tt
+number (inf sign) h = tt
+number (fin sign m exponent) h = tt
 
 float-to-bits-result : tie.Need-float-to-bits-result
 float-to-bits-result c = number (c .before .args .y) (c .if1 .taken)

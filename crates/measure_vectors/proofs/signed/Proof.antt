@@ -1,4 +1,5 @@
 -- `signed` is safe: the size is below 2 ^ 16, so its negative fits.
+-- Assumes nothing.
 use borrow.Author.Needs.{needs}
 use Prim.Native.Nat.{ℕ, _%_, _<_}
 use native.Mathlib.Omega.{arith}
@@ -11,15 +12,15 @@ use Rattle.measure.proofs.Range.{minus-fits}
 use Rattle.measure_vectors.proofs.signed.Statement.{statement}
 use Rattle.measure_vectors.proofs.signed.Tie as tie
 
-cast-n : tie.Need-cast-n
-cast-n c = search needs
+cast-number : tie.Need-cast-number
+cast-number c = search needs
 
--- MIR has `-n` as `0 - n`
-minus : (n : ℕ) → n < 2147483648 → pos 0 -ℤ toZ w32 n ≡ negℤ (pos n)
-minus n h = ap (λ (z : ℤ). pos 0 -ℤ z) (toZ-pos w32 n h) ∙ +ℤ-idl (negℤ (pos n))
+-- MIR has `-x` as `0 - x`
+minus : (number : ℕ) → number < 2147483648 → pos 0 -ℤ toZ w32 number ≡ negℤ (pos number)
+minus number h = ap (λ (z : ℤ). pos 0 -ℤ z) (toZ-pos w32 number h) ∙ +ℤ-idl (negℤ (pos number))
 
-small : (n : ℕ) → n % 65536 < 2147483648
-small n = omega arith
+small : (number : ℕ) → number % 65536 < 2147483648
+small number = omega arith
 
 sub-result : tie.Need-sub-result
 sub-result c = rw (minus (c .before .args .size % 65536) (small (c .before .args .size))) (minus-fits w32 (c .before .args .size % 65536) (small (c .before .args .size)))
@@ -31,4 +32,4 @@ returns-2 : tie.Need-returns-2
 returns-2 c = search needs
 
 pub signed-spec : {M : Type 1} → statement M
-signed-spec = tie.close (tie.spec cast-n sub-result returns returns-2)
+signed-spec = tie.close (tie.spec cast-number sub-result returns returns-2)

@@ -1,44 +1,50 @@
 -- `result::signal_bits` meets its contract. Assumes nothing.
 use native.Mathlib.Omega.{arith}
-use Rattle.result.specs.Result.{signalBits}
+use Rattle.calls.specs.Result.{signalBits}
+use Rattle.result.proofs.Laws.{weighs}
 use borrow.Author.Needs.{needs}
 use Rattle.result.proofs.signal_bits.Statement.{statement}
 use Rattle.result.proofs.signal_bits.Tie as tie
 
-bit-requires : tie.Need-bit-requires
-bit-requires c κs = search needs
-
-bit-requires-2 : tie.Need-bit-requires-2
-bit-requires-2 c κs = search needs
-
 add-result : tie.Need-add-result
-add-result c = search needs
-
-bit-requires-3 : tie.Need-bit-requires-3
-bit-requires-3 c κs = search needs
+add-result c =
+    let signals = c .before .before .args .signals in
+    let first = weighs (signals .first) 1 in
+    let second = weighs (signals .second) 2 in
+    omega (arith, first, second, c .before .bit .ensures, c .bit2 .ensures)
 
 add-result-2 : tie.Need-add-result-2
-add-result-2 c = search needs
-
-bit-requires-4 : tie.Need-bit-requires-4
-bit-requires-4 c κs = search needs
+add-result-2 c =
+    let signals = c .before .before .before .args .signals in
+    let first = weighs (signals .first) 1 in
+    let second = weighs (signals .second) 2 in
+    let third = weighs (signals .third) 4 in
+    omega (arith, first, second, third, c .before .before .bit .ensures, c .before .bit2 .ensures, c .bit3 .ensures)
 
 add-result-3 : tie.Need-add-result-3
-add-result-3 c = search needs
+add-result-3 c =
+    let signals = c .before .before .before .before .args .signals in
+    let first = weighs (signals .first) 1 in
+    let second = weighs (signals .second) 2 in
+    let third = weighs (signals .third) 4 in
+    let fourth = weighs (signals .fourth) 8 in
+    let lowest = c .before .before .before .bit .ensures in
+    omega (arith, first, second, third, fourth, lowest, c .before .before .bit2 .ensures, c .before .bit3 .ensures, c .bit4 .ensures)
 
 returns : tie.Need-returns
 unfolding signalBits
-returns c = (rw (c .before .before .before .bit .ensures .0, c .before .before .bit2 .ensures .0, c .before .bit3 .ensures .0, c .bit4 .ensures .0), omega (arith, c .before .before .before .bit .ensures .1, c .before .before .bit2 .ensures .1, c .before .bit3 .ensures .1, c .bit4 .ensures .1))
+returns c =
+    rw (c .before .before .before .bit .ensures, c .before .before .bit2 .ensures, c .before .bit3 .ensures, c .bit4 .ensures)
 
 pub signal-bits-spec : {M : Type 1} → statement M
 signal-bits-spec =
     tie.close
     (tie.spec
-    bit-requires
-    bit-requires-2
+    (λ c κs. search needs)
+    (λ c κs. search needs)
     add-result
-    bit-requires-3
+    (λ c κs. search needs)
     add-result-2
-    bit-requires-4
+    (λ c κs. search needs)
     add-result-3
     returns)

@@ -5,20 +5,22 @@ use mathlib.Core.Path.{sym, _∙_}
 use borrow.Author.Needs.{needs}
 use borrow.Author.Tests.{not-false}
 use denote.Ref.{now}
+use Rattle.plain.specs.Setup.{over}
 use Rattle.terminal.proofs.Laws.{all-lines}
 use Rattle.terminal.proofs.run_bank.Statement.{statement}
 use Rattle.terminal.proofs.run_bank.Tie as tie
 
 returns : tie.Need-returns
-returns c = λ e. absurd (false≢true e)
+returns c = λ h. absurd (false≢true h)
 
 returns-2 : tie.Need-returns-2
 returns-2 c =
-    let b = now (c .before .before .before .before .before .before .before .before .before .before .before .before .before .args .bank) in
-    let s = c .before .before .before .before .before .before .before .before .before .start in
-    let r = c .before .run-lines in
-    let ok = sym (s .ensures .1) ∙ not-false _ (c .before .before .before .if1 .left) in
-    λ e. all-lines b _ (s .result .ran .between) (r .result .between) ok (s .ensures .0) (r .ensures e)
+    let test = c .before .before .before in
+    let start = test .before .before .before .before .before .before .start in
+    let setup = over (now (test .before .before .before .before .before .before .before .before .before .before .args .bank)) in
+    let lines = c .before .run-lines in
+    let ok = sym (start .ensures .found) ∙ not-false _ (test .if1 .left) in
+    λ h. all-lines setup _ (start .result .ran) (lines .result .between) ok (start .ensures .is) (lines .ensures h)
 
 pub run-bank-spec : {M : Type 1} → statement M
 run-bank-spec =

@@ -1,45 +1,68 @@
 -- `terminal::run_lines` meets its contract. The invariant: while it goes on, a part of the input was run; where all was run, the whole.
 -- Assumes nothing.
-use mathlib.Core.Bool.{true, false≢true}
+use Prim.Native.Nat.{ℕ}
+use mathlib.Core.Bool.{Bool, false≢true}
+use mathlib.Core.List.{List}
 use mathlib.Core.Path.{_≡_, refl, sym, _∙_}
 use native.Mathlib.Omega.{arith}
 use borrow.Author.Needs.{needs}
 use borrow.Author.Tests.{not-false}
 use denote.Ref.{now}
 use lib.ListN.{length}
-use Rattle.line.specs.Part.{found}
-use Rattle.terminal.specs.Input.{Part, Whole}
+use Rattle.plain.specs.Setup.{Setup, over}
+use Rattle.line.specs.declared.Between.{Between}
+use Rattle.line.specs.Part.{Sheet, found}
+use Rattle.terminal.specs.Input.{Turned}
 use Rattle.terminal.proofs.Laws.{no-part, part-part, part-end}
 use Rattle.terminal.proofs.run_lines.Statement.{statement}
 use Rattle.terminal.proofs.run_lines.Tie as tie
 
+-- what every turn keeps, and what the turns so far have run
+record Turns (setup : Setup) (before : Sheet) (size : ℕ) (store out : List ℕ) (between : Between) (goes-on is-whole : Bool) : Type 0 where
+  pub sized : length store ≡ size
+  pub wide : length out ≡ 65536
+  pub turned : Turned setup before (found between store) goes-on is-whole
+
 abbrev Inv-loop : tie.InvT-loop
-Inv-loop bank store₀ shows out₀ x₀ turns₀ store out x turns =
-    (length store ≡ length store₀) × (length out ≡ 65536)
-    × (x .«goes_on» ≡ true → Part bank (found (x₀ .between) store₀) (found (x .between) store))
-    × (x .«is_whole» ≡ true → Whole bank (found (x₀ .between) store₀) (found (x .between) store))
+Inv-loop bank store₀ shows out₀ turn₀ turns₀ store out turn turns =
+    Turns (over bank) (found (turn₀ .between) store₀) (length store₀) store out (turn .between) (turn .«goes_on») (turn .«is_whole»)
 
 abbrev μ-loop : tie.MeasureT-loop
-μ-loop bank store₀ shows out₀ x₀ turns₀ store out x turns = turns
+μ-loop bank store₀ shows out₀ turn₀ turns₀ store out turn turns = turns
 
 loop-holds : tie.Need-loop-holds Inv-loop μ-loop
 loop-holds c =
-    let start = c .before .before .before in
-    (refl, sym (c .large-buffer .ensures), λ e. no-part (now (start .args .bank)) (start .args .between) (now (start .args .store)), λ e. absurd (false≢true e))
+    let a = c .before .before .before .args in
+    record {
+      sized = refl;
+      wide = sym (c .large-buffer .ensures);
+      turned = record {
+        part = λ h. no-part (over (now (a .bank))) (a .between) (now (a .store));
+        whole = λ h. absurd (false≢true h);
+      };
+    }
 
 loop-again : tie.Need-loop-again Inv-loop μ-loop
 loop-again c =
-    let b = now (c .before .before .before .before .before .before .before .before .before .before .before .before .before .before .args .bank) in
-    let l = c .before .before .before .before .before .before .before .before .before .before .loop in
-    let t = c .before .before .before .take-turn in
-    let p = l .inv .2 (not-false _ (c .before .before .before .before .before .before .before .if1 .left)) in
-    (t .kept .1 .0 ∙ l .inv .0, t .kept .1 .1 .1 .0 ∙ l .inv .1, λ e. part-part b p (t .ensures .0 e), λ e. part-end b p (t .ensures .1 e))
+    let test = c .before .before .before .before .before .before .before in
+    let so-far = test .before .before .before .loop .inv in
+    let setup = over (now (test .before .before .before .before .before .before .before .args .bank)) in
+    let turn = c .before .before .before .take-turn in
+    let part = so-far .turned .part (not-false _ (test .if1 .left)) in
+    record {
+      sized = turn .kept .1 .0 ∙ so-far .sized;
+      wide = turn .kept .1 .1 .1 .0 ∙ so-far .wide;
+      turned = record {
+        part = λ h. part-part setup part (turn .ensures .part h);
+        whole = λ h. part-end setup part (turn .ensures .whole h);
+      };
+    }
 
 same-length : tie.Need-same-length Inv-loop μ-loop
-same-length c = c .before .before .loop .inv .0
+same-length c = c .before .before .loop .inv .sized
 
 returns : tie.Need-returns Inv-loop μ-loop
-returns c = c .before .before .loop .inv .3
+returns c = c .before .before .loop .inv .turned .whole
 
 pub run-lines-spec : {M : Type 1} → statement M
 run-lines-spec =

@@ -7,7 +7,7 @@ use Rattle.terminal.proofs.show.Statement.{statement}
 use Rattle.terminal.proofs.show.Tie as tie
 
 returns : tie.Need-returns
-returns c = λ e. absurd (false≢true e)
+returns c = λ h. absurd (false≢true h)
 
 slice-aggregate-write-all : tie.Need-slice-aggregate-write-all
 slice-aggregate-write-all c = front _ _ (c .before .if1 .left)

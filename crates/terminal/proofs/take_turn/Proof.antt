@@ -1,38 +1,47 @@
 -- `terminal::take_turn` meets its contract: a read that fails, one at the end of the input, and one that gives a part.
 -- Assumes nothing.
 use Prim.Native.Nat.{_*_, _≤_}
-use mathlib.Core.Bool.{false≢true}
+use mathlib.Core.Bool.{true, false, false≢true}
+use mathlib.Core.Path.{_≡_}
 use native.Mathlib.Omega.{arith}
 use borrow.Author.Needs.{needs}
 use denote.Ref.{now}
 use lib.ListN.{length, take, length-take}
+use Rattle.plain.specs.Setup.{over}
 use Rattle.line.specs.Part.{found}
-use Rattle.terminal.proofs.Laws.{ran, finished}
+use Rattle.terminal.proofs.Laws.{ran-part, finished}
 use Rattle.terminal.proofs.take_turn.Statement.{statement}
 use Rattle.terminal.proofs.take_turn.Tie as tie
 
+-- lines that do not go on, and those that are not read to their end
+no : {A : Type 0} → false ≡ true → A
+no h = absurd (false≢true h)
+
 returns : tie.Need-returns
-returns c = (λ e. absurd (false≢true e), λ e. absurd (false≢true e))
+returns c = record { part = no; whole = no }
 
 returns-2 : tie.Need-returns-2
 returns-2 c =
-    let start = c .before .before .before .before .before .before .before .before .before .before .before .before .before .before .before .before .before .before .before .before in
+    let call = c .before .before .before .before .before .before .before in
+    let start = call .before .before .before .before .before .before .before .before .before .before .before .before .before in
     let a = start .args in
-    let x = found (a .between) (now (a .store)) in
-    let f = c .before .before .before .before .before .before .before .finish in
-    (λ e. absurd (false≢true e), λ e. finished (now (a .bank)) x (now (a .out)) (f .result .between) (omega (arith, start .pre)) (f .ensures))
+    let last = call .finish in
+    let sheet = found (a .between) (now (a .store)) in
+    record { part = no; whole = λ h. finished (over (now (a .bank))) sheet (now (a .out)) (last .result) (omega (arith, start .pre)) (last .ensures) }
 
 returns-3 : tie.Need-returns-3
 returns-3 c =
-    let start = c .before .before .before .before .before .before .before .before .before .before .before .before .before .before .before .before .before .before .before .before .before in
+    let call = c .before .before .before .before .before .before .before in
+    let counted = call .before .before .before .before .before in
+    let read = counted .before .before .before .before .read in
+    let start = counted .before .before .before .before .before .before .before .before .before in
     let a = start .args in
-    let x = found (a .between) (now (a .store)) in
-    let read = c .before .before .before .before .before .before .before .before .before .before .before .before .before .before .before .before .read in
-    let n = c .before .before .before .before .before .before .before .before .before .before .before .before .count .result in
-    let r = c .before .before .before .before .before .before .before .run in
-    let cs = take n (read .last .1 .0) in
-    let room : 168 * length cs ≤ length (now (a .out)) = omega (arith, length-take n (read .last .1 .0), read .kept .1 .0, start .pre) in
-    (λ e. ran (now (a .bank)) x cs (now (a .out)) (r .result .between) room (r .ensures), λ e. absurd (false≢true e))
+    let ran = call .run in
+    let sheet = found (a .between) (now (a .store)) in
+    let cs = take (counted .count .result) (read .last .1 .0) in
+    let short = length-take (counted .count .result) (read .last .1 .0) in
+    let room : 168 * length cs ≤ length (now (a .out)) = omega (arith, short, read .kept .1 .0, start .pre) in
+    record { part = λ h. ran-part (over (now (a .bank))) sheet cs (now (a .out)) (ran .result) room (ran .ensures); whole = no }
 
 pub take-turn-spec : {M : Type 1} → statement M
 take-turn-spec =

@@ -17,25 +17,25 @@ found c = numbers-tell _ _ (c .check .ensures)
 
 returns : tie.Need-returns
 returns c =
-    let b = now (c .before .before .before .before .args .bank) in
+    let bank = now (c .before .before .before .before .args .bank) in
     let check = c .before .before .check in
-    ap given (c .refused .ensures ∙ read-refused b (found (c .before .before)) (is-refused (check .result) (c .before .match .keys2)))
+    ap given (c .refused .ensures ∙ read-refused bank (found (c .before .before)) (is-refused (check .result) (c .before .match .keys2)))
 
 patterns-requires : tie.Need-patterns-requires
 unfolding settingsAt
 patterns-requires c κs =
     let check = c .before .before .before .check in
     let ok = accepted (check .result) (c .before .before .match .keys1) in
-    (sym (found (c .before .before .before)) ∙ ok, ap (λ (s : Settings). s .patterns) (c .read-settings .ensures))
+    record { ok = sym (found (c .before .before .before)) ∙ ok; count = ap (λ (settings : Settings). settings .patterns) (c .read-settings .ensures) }
 
 returns-2 : tie.Need-returns-2
 returns-2 c =
-    let b = now (c .before .before .before .before .before .before .args .bank) in
+    let bank = now (c .before .before .before .before .before .before .args .bank) in
     let check = c .before .before .before .before .check in
     let ok = accepted (check .result) (c .before .before .before .match .keys1) in
     ap given
     ((λ i. record { found = check .result; settings = c .before .read-settings .ensures i; patterns = c .patterns .ensures i })
-    ∙ read-accepted b (found (c .before .before .before .before)) ok)
+    ∙ read-accepted bank (found (c .before .before .before .before)) ok)
 
 pub read-spec : {M : Type 1} → statement M
 read-spec =

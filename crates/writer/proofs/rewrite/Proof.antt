@@ -16,20 +16,20 @@ unfolding rewriteOf
 returns c =
     let start = c .before .before .before .before in
     let read = c .before .read in
-    let b = now (start .args .bank) in
+    let bytes = now (start .args .bank) in
     let out = now (start .args .out) in
     let f = read .result .found in
-    sym (ap (λ (f : Checked). writeAs f b out) (sym (found-as b (read .result) (read .ensures))) ∙ refused-as b out f (is-refused f (c .match .keys2)))
+    sym (ap (λ (f : Checked). writeAs f bytes out) (sym (found-as bytes (read .result) (read .ensures))) ∙ refused-as bytes out f (is-refused f (c .match .keys2)))
 
 returns-2 : tie.Need-returns-2
 returns-2 c =
     let start = c .before .before .before .before .before .before .before .before .before in
-    let b = now (start .args .bank) in
+    let bytes = now (start .args .bank) in
     let known = c .before .before .before .before .before .before .before .before .shared-slice-known .given in
     let read = c .before .before .before .before .before .before .read in
     let ok = accepted (read .result .found) (c .before .before .before .before .before .match .keys1) in
     c .before .before .write .ensures .0
-    ∙ rewritten b (read .result) (read .ensures) (λ i. known i .fits) ok (now (start .args .out))
+    ∙ rewritten bytes (read .result) (read .ensures) (λ i. known i .fits) ok (now (start .args .out))
 
 pub rewrite-spec : {M : Type 1} → statement M
 rewrite-spec =

@@ -25,17 +25,17 @@ check-pairs-requires : tie.Need-check-pairs-requires
 unfolding settingsIn settingsAt
 check-pairs-requires c κs =
     let judging = c .before .before .before in
-    let b = now (judging .before .before .args .bank) in
+    let bank = now (judging .before .before .args .bank) in
     let found = sym (judged judging) ∙ accepted (judging .check-settings-in .result) (c .before .before .match .keys1) in
-    let h = settings-count (settingsAt b) (test-holds _ _ _ not-short found .1) in
+    let h = settings-count (settingsAt bank) (test-holds _ _ _ not-short found .1) in
     omega (arith, h .1, c .byte .ensures)
 
 returns-2 : tie.Need-returns-2
 unfolding foundIn settingsAt
 returns-2 c =
-    let b = now (c .before .before .before .before .before .before .before .args .bank) in
+    let bank = now (c .before .before .before .before .before .before .before .args .bank) in
     sym (goes (judged (c .before .before .before .before .before)) (c .before .before .before .before .match .keys1)
-    ∙ ends _ (c .before .check-pairs .ensures ∙ ap (pairsFound b) (c .before .before .byte .ensures)) (c .match2 .keys2))
+    ∙ ends _ (c .before .check-pairs .ensures ∙ ap (pairsFound bank) (c .before .before .byte .ensures)) (c .match2 .keys2))
 
 check-bodies-requires : tie.Need-check-bodies-requires
 check-bodies-requires c κs =
@@ -47,14 +47,14 @@ unfolding foundIn patternsOf settingsAt
 returns-3 c =
     let told = c .before .before .before .before in
     let judging = told .before .before .before .before .before in
-    let b = now (judging .before .before .args .bank) in
+    let bank = now (judging .before .before .args .bank) in
     let n = told .before .before .byte .ensures in
     let low = bits (c .before .before .signed .ok) ∙ c .before .before .signed .ensures in
     let high = bits (c .before .signed2 .ok) ∙ c .before .signed2 .ensures in
     c .check-bodies .ensures
-    ∙ (λ i. bodiesFound ofLength (low i) (high i) 1 (tab (patternAt b) 1 1 (n i)))
+    ∙ (λ i. bodiesFound ofLength (low i) (high i) 1 (tab (patternAt bank) 1 1 (n i)))
     ∙ sym (goes (judged judging) (told .before .before .before .before .match .keys1)
-    ∙ goes (told .before .check-pairs .ensures ∙ ap (pairsFound b) n) (told .match2 .keys1))
+    ∙ goes (told .before .check-pairs .ensures ∙ ap (pairsFound bank) n) (told .match2 .keys1))
 
 pub check-spec : {M : Type 1} → statement M
 check-spec =

@@ -58,9 +58,9 @@ body-inside c =
 
 -- what the call of `body_right` says, of the bank itself
 said : (c : tie.After-body-right Inv-loop μ-loop Inv-walk μ-walk) →
-    let b = now (c .before .before .before .before .before .before .args .bank) in
+    let bank = now (c .before .before .before .before .before .before .args .bank) in
     let p = c .before .before .before .before .walk .p + 1 in
-    c .body-right .result ≡ startRight b (offsetOf b p) (stepsIn (lengthOf b p))
+    c .body-right .result ≡ startRight bank (offsetOf bank p) (stepsIn (lengthOf bank p))
 unfolding startRight
 said c =
     let body = c .before .before .body-in .ensures in
@@ -70,26 +70,26 @@ said c =
 -- a turn takes the first of the steps off
 turn : (c : tie.After-check-step Inv-loop μ-loop Inv-walk μ-walk) →
     let start = c .before .before .before .before .before .before .before .before .before .before .before in
-    let w = c .before .before .before .before .before .before .before .before .before .walk in
+    let walk = c .before .before .before .before .before .before .before .before .before .walk in
     let at = c .before .before .before .before .before .before .before .body-in .result .at in
     let s = c .before .before .before .before .before .before .steps-in .result in
     let l = c .before .before .before .loop in
     let low = toZ w16 (ofZ w16 (start .args .low)) in
     let high = toZ w16 (ofZ w16 (start .args .high)) in
-    let b = now (start .args .bank) in
-    restSteps low high b (w .p) at s (l .k) ≡ test (c .check-step .result) (Body (w .p + 1) (l .k + 1)) (restSteps low high b (w .p) at s (l .k + 1))
+    let bank = now (start .args .bank) in
+    restSteps low high bank (walk .p) at s (l .k) ≡ test (c .check-step .result) (Body (walk .p + 1) (l .k + 1)) (restSteps low high bank (walk .p) at s (l .k + 1))
 turn c =
     let start = c .before .before .before .before .before .before .before .before .before .before .before in
-    let w = c .before .before .before .before .before .before .before .before .before .walk in
+    let walk = c .before .before .before .before .before .before .before .before .before .walk in
     let at = c .before .before .before .before .before .before .before .body-in .result .at in
     let s = c .before .before .before .before .before .before .steps-in .result in
     let l = c .before .before .before .loop in
     let low = toZ w16 (ofZ w16 (start .args .low)) in
     let high = toZ w16 (ofZ w16 (start .args .high)) in
-    let b = now (start .args .bank) in
+    let bank = now (start .args .bank) in
     let said = c .check-step .ensures ∙ ap (stepRight low high) (c .before .step-in .ensures) in
-    steps-more low high b (w .p) at s (l .k) (c .before .before .loop-test .taken)
-    ∙ ap (λ (t : Bool). test t (Body (w .p + 1) (l .k + 1)) (restSteps low high b (w .p) at s (l .k + 1))) (sym said)
+    steps-more low high bank (walk .p) at s (l .k) (c .before .before .loop-test .taken)
+    ∙ ap (λ (t : Bool). test t (Body (walk .p + 1) (l .k + 1)) (restSteps low high bank (walk .p) at s (l .k + 1))) (sym said)
 
 walk-holds : tie.Need-walk-holds Inv-loop μ-loop Inv-walk μ-walk
 walk-holds c = (omega arith, bodies-start _ _ (now (c .before .args .bank)) (c .before .args .n))
@@ -108,28 +108,28 @@ loop-holds c =
     let body-in = c .before .before .before .body-in in
     let low = toZ w16 (ofZ w16 (start .args .low)) in
     let high = toZ w16 (ofZ w16 (start .args .high)) in
-    let b = now (start .args .bank) in
+    let bank = now (start .args .bank) in
     let n = start .args .n in
-    let w = c .before .before .before .before .before .walk in
+    let walk = c .before .before .before .before .before .walk in
     let at = body-in .ensures .at in
     let s = c .before .before .steps-in .ensures ∙ ap stepsIn (body-in .ensures .len) in
     let ok = passed (said (c .before)) (c .if2 .left) in (
       omega arith,
-      omega (arith, start-count _ _ _ ok, field-below 1 b (offsetOf b (w .p + 1) + 1) (λ i. c .before .before .before .before .before .before .shared-slice-known .given i .fits)),
+      omega (arith, start-count _ _ _ ok, field-below 1 bank (offsetOf bank (walk .p + 1) + 1) (λ i. c .before .before .before .before .before .before .shared-slice-known .given i .fits)),
       omega (arith, body-inside (c .before .before .before)),
-      w .inv .1 ∙ bodies-more low high b n (w .p) (c .before .before .before .before .if1 .left) ∙ right _ ok
-          ∙ (λ i. then (restSteps low high b (w .p) (sym at i) (sym s i) 0) (restBodies low high b n (w .p + 1))),
+      walk .inv .1 ∙ bodies-more low high bank n (walk .p) (c .before .before .before .before .if1 .left) ∙ right _ ok
+          ∙ (λ i. then (restSteps low high bank (walk .p) (sym at i) (sym s i) 0) (restBodies low high bank n (walk .p + 1))),
     )
 
 loop-again : tie.Need-loop-again Inv-loop μ-loop Inv-walk μ-walk
 loop-again c =
     let start = c .before .before .before .before .before .before .before .before .before .before .before .before in
     let l = c .before .before .before .before .loop in
-    let w = c .before .before .before .before .before .before .before .before .before .before .walk in
+    let walk = c .before .before .before .before .before .before .before .before .before .before .walk in
     let low = toZ w16 (ofZ w16 (start .args .low)) in
     let high = toZ w16 (ofZ w16 (start .args .high)) in
-    let rest = restBodies low high (now (start .args .bank)) (start .args .n) (w .p + 1) in
-    (omega arith, l .inv .1, l .inv .2, l .inv .3 ∙ ap (λ (r : Checked). then r rest) (turn (c .before) ∙ right _ (not-false _ (c .if3 .left))))
+    let rest = restBodies low high (now (start .args .bank)) (start .args .n) (walk .p + 1) in
+    (omega arith, l .inv .1, l .inv .2, l .inv .3 ∙ ap (λ (found : Checked). then found rest) (turn (c .before) ∙ right _ (not-false _ (c .if3 .left))))
 
 walk-again : tie.Need-walk-again Inv-loop μ-loop Inv-walk μ-walk
 walk-again c =
@@ -155,12 +155,12 @@ returns-3 : tie.Need-returns-3 Inv-loop μ-loop Inv-walk μ-walk
 returns-3 c =
     let start = c .before .before .before .before .before .before .before .before .before .before .before .before in
     let l = c .before .before .before .before .loop in
-    let w = c .before .before .before .before .before .before .before .before .before .before .walk in
+    let walk = c .before .before .before .before .before .before .before .before .before .before .walk in
     let low = toZ w16 (ofZ w16 (start .args .low)) in
     let high = toZ w16 (ofZ w16 (start .args .high)) in
-    let rest = restBodies low high (now (start .args .bank)) (start .args .n) (w .p + 1) in
-    sym (same _ _ (start .fits .low) (start .fits .high) ∙ l .inv .3 ∙ ap (λ (r : Checked). then r rest) (turn (c .before) ∙ wrong _ (not-true _ (c .if3 .taken)))
-    ∙ stop (w .p + 1) (l .k + 1) rest)
+    let rest = restBodies low high (now (start .args .bank)) (start .args .n) (walk .p + 1) in
+    sym (same _ _ (start .fits .low) (start .fits .high) ∙ l .inv .3 ∙ ap (λ (found : Checked). then found rest) (turn (c .before) ∙ wrong _ (not-true _ (c .if3 .taken)))
+    ∙ stop (walk .p + 1) (l .k + 1) rest)
 
 pub check-bodies-spec : {M : Type 1} → statement M
 check-bodies-spec =

@@ -24,7 +24,7 @@ unfolding stepAt tab
 returns-3 c =
     let signals = c .before .before .before in
     let start = signals .before .before .before .before .before .before .before in
-    let b = now (start .args .bytes) in
+    let bytes = now (start .args .bytes) in
     let at = start .args .at in
     let e6 : at + 6 ≡ at + 5 + 1 = omega arith in
     let e7 : at + 7 ≡ at + 5 + 1 + 1 = omega arith in
@@ -34,8 +34,8 @@ returns-3 c =
       minutes = c .before .word .ensures i;
       wait = c .byte5 .ensures i;
       signals =
-          signals .before .before .before .byte .ensures i ∷ (signals .before .before .byte2 .ensures ∙ ap (field 1 b) e6) i
-          ∷ (signals .before .byte3 .ensures ∙ ap (field 1 b) e7) i ∷ (signals .byte4 .ensures ∙ ap (field 1 b) e8) i ∷ [];
+          signals .before .before .before .byte .ensures i ∷ (signals .before .before .byte2 .ensures ∙ ap (field 1 bytes) e6) i
+          ∷ (signals .before .byte3 .ensures ∙ ap (field 1 bytes) e7) i ∷ (signals .byte4 .ensures ∙ ap (field 1 bytes) e8) i ∷ [];
     }
 
 pub step-at-spec : {M : Type 1} → statement M

@@ -22,16 +22,16 @@ unfolding stepAt signedField tab
 returns c =
     let target = c .before .before .before .before in
     let start = target .before .before .before .before .before .before .before .before .before in
-    let b = now (start .args .bytes) in
+    let bytes = now (start .args .bytes) in
     let at = start .args .at in
-    let byte : (n m : ℕ) → n ≡ m → getD b n 0 ≡ field 1 b m = λ n m e. sym (field-one b n) ∙ ap (field 1 b) e in
-    let word = field-joined b at (at + 1) at (target .before .join2 .ensures) refl refl in
+    let byte : (from to : ℕ) → from ≡ to → getD bytes from 0 ≡ field 1 bytes to = λ from to same. sym (field-one bytes from) ∙ ap (field 1 bytes) same in
+    let word = field-joined bytes at (at + 1) at (target .before .join2 .ensures) refl refl in
     let b6 = byte (at + 6) (at + 5 + 1) (omega arith) in
     let b7 = byte (at + 7) (at + 5 + 1 + 1) (omega arith) in
     let b8 = byte (at + 8) (at + 5 + 1 + 1 + 1) (omega arith) in
     λ i. record {
       target = (bits (target .signed-of .ok) ∙ target .signed-of .ensures ∙ ap (toZ w16) word) i;
-      minutes = field-joined b (at + 2) (at + 3) (at + 2) (c .before .join22 .ensures) refl (omega arith) i;
+      minutes = field-joined bytes (at + 2) (at + 3) (at + 2) (c .before .join22 .ensures) refl (omega arith) i;
       wait = byte (at + 4) (at + 4) refl i;
       signals = byte (at + 5) (at + 5) refl i ∷ b6 i ∷ b7 i ∷ b8 i ∷ [];
     }

@@ -23,13 +23,16 @@ abbrev μ-loop : tie.MeasureT-loop
 
 -- what the call of `pair_right` says, of the bank itself
 said : (c : tie.After-pair-right Inv-loop μ-loop) →
-    let b = now (c .before .before .before .before .before .before .before .args .bank) in
-    let p = c .before .before .before .loop .i + 1 in
-    c .pair-right .result ≡ pairRight (offsetOf b p) (lengthOf b p) (c .before .before .before .loop .due) (capacityOf (c .before .before .before .before .before .before .before .args .n)) (length b)
+    let l = c .before .before .before .loop in
+    let args = c .before .before .before .before .before .before .before .args in
+    let bank = now (args .bank) in
+    c .pair-right .result ≡ pairRight (offsetOf bank (l .i + 1)) (lengthOf bank (l .i + 1)) (l .due) (capacityOf (args .n)) (length bank)
 said c =
     let body = c .before .body-in .ensures in
-    c .pair-right .ensures
-    ∙ (λ i. pairRight (body .at i) (body .len i) (c .before .before .before .loop .due) (c .before .before .before .before .capacity .ensures i) (length (now (c .before .before .before .before .before .before .before .args .bank))))
+    let due = c .before .before .before .loop .due in
+    let capacity = c .before .before .before .before .capacity .ensures in
+    let bank = now (c .before .before .before .before .before .before .before .args .bank) in
+    c .pair-right .ensures ∙ (λ i. pairRight (body .at i) (body .len i) due (capacity i) (length bank))
 
 returns : tie.Need-returns Inv-loop μ-loop
 unfolding pairsFound
@@ -39,12 +42,12 @@ loop-holds : tie.Need-loop-holds Inv-loop μ-loop
 unfolding pairsFound
 loop-holds c =
     let start = c .before .before .before in
-    let b = now (start .args .bank) in
+    let bank = now (start .args .bank) in
     let n = start .args .n in
-    (omega arith, omega arith, right _ (le-leb (45 + 4 * n) (length b) (omega arith)) ∙ pairs-start b n (45 + 4 * n))
+    (omega arith, omega arith, right _ (le-leb (45 + 4 * n) (length bank) (omega arith)) ∙ pairs-start bank n (45 + 4 * n))
 
 pair-right-requires : tie.Need-pair-right-requires Inv-loop μ-loop
-pair-right-requires c κs = omega (arith, c .body-in .ensures .short)
+pair-right-requires c κs = record { near = omega arith; short = c .body-in .ensures .short }
 
 returns-2 : tie.Need-returns-2 Inv-loop μ-loop
 returns-2 c =
@@ -62,12 +65,12 @@ loop-again c =
     let start = c .before .before .before .before .before .before .before .before .before in
     let body-in = c .before .before .before .body-in in
     let l = c .before .before .before .before .before .loop in
-    let b = now (start .args .bank) in
+    let bank = now (start .args .bank) in
     let n = start .args .n in (
       omega arith,
       omega (arith, body-in .ensures .short),
-      l .inv .2 ∙ pairs-more b n (l .i) (l .due) (c .before .before .before .before .loop-test .taken) ∙ right _ (passed (said (c .before .before)) (c .before .if2 .left))
-          ∙ ap (λ (x : ℕ). restPairs b n (l .i + 1) (l .due + x)) (sym (body-in .ensures .len)),
+      l .inv .2 ∙ pairs-more bank n (l .i) (l .due) (c .before .before .before .before .loop-test .taken) ∙ right _ (passed (said (c .before .before)) (c .before .if2 .left))
+          ∙ ap (λ (x : ℕ). restPairs bank n (l .i + 1) (l .due + x)) (sym (body-in .ensures .len)),
     )
 
 returns-3 : tie.Need-returns-3 Inv-loop μ-loop

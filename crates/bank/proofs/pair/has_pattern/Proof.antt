@@ -1,5 +1,6 @@
 -- `bank::pair::has_pattern` meets its contract.
 -- Assumes nothing.
+use mathlib.Core.Path.{sym}
 use Rattle.setting.proofs.Laws.{both-and}
 use Rattle.setting.specs.Range.{between}
 use borrow.Author.Needs.{needs}
@@ -8,7 +9,7 @@ use Rattle.bank.proofs.pair.has_pattern.Tie as tie
 
 returns : tie.Need-returns
 unfolding between
-returns c = rw (c .byte .ensures) (simp both-and)
+returns c = rw (c .byte .ensures) (sym (both-and _ _))
 
 pub has-pattern-spec : {M : Type 1} → statement M
 has-pattern-spec = tie.close (tie.spec (λ c κs. search needs) returns)

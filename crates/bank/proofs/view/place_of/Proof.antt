@@ -16,11 +16,11 @@ returns : tie.Need-returns
 unfolding placeOf noPattern
 returns c =
     let start = c .before .before .before .before in
-    let b = now (start .args .bank) in
+    let bank = now (start .args .bank) in
     let none = refused (c .before .before .has-pattern .ensures) (c .before .if1 .taken) in
-    let pattern = sym (pattern-none b (start .args .p) none) in
+    let pattern = sym (pattern-none bank (start .args .p) none) in
     λ i. record {
-      step = (c .no-step .ensures ∙ sym (step-none b (start .args .p) none (start .args .k))) i;
+      step = (c .no-step .ensures ∙ sym (step-none bank (start .args .p) none (start .args .k))) i;
       count = pattern i .count;
       runs = pattern i .runs;
     }
@@ -29,15 +29,15 @@ returns-2 : tie.Need-returns-2
 unfolding placeOf stepOf patternAt
 returns-2 c =
     let start = c .before .before .before .before .before .before .before in
-    let b = now (start .args .bank) in
+    let bank = now (start .args .bank) in
     let k = start .args .k in
     let body = c .before .before .before .body-of .ensures in
-    let pattern = sym (pattern-there b (start .args .p) (passed (c .before .before .before .before .before .has-pattern .ensures) (c .before .before .before .before .if1 .left))) in
+    let pattern = sym (pattern-there bank (start .args .p) (passed (c .before .before .before .before .before .has-pattern .ensures) (c .before .before .before .before .if1 .left))) in
     let step = c .before .before .step-numbered .ensures
-    ∙ (λ i. numbered noStep (tab (stepAt b) 9 (body .at i + 2) (stepsIn (body .len i))) k)
+    ∙ (λ i. numbered noStep (tab (stepAt bank) 9 (body .at i + 2) (stepsIn (body .len i))) k)
     ∙ ap (λ (x : Pattern). numbered noStep (x .steps) k) pattern in
-    let count = c .before .byte .ensures ∙ ap (λ (x : ℕ). field 1 b (x + 1)) (body .at) ∙ ap (λ (x : Pattern). x .count) pattern in
-    let runs = c .byte2 .ensures ∙ ap (field 1 b) (body .at) ∙ ap (λ (x : Pattern). x .runs) pattern in
+    let count = c .before .byte .ensures ∙ ap (λ (x : ℕ). field 1 bank (x + 1)) (body .at) ∙ ap (λ (x : Pattern). x .count) pattern in
+    let runs = c .byte2 .ensures ∙ ap (field 1 bank) (body .at) ∙ ap (λ (x : Pattern). x .runs) pattern in
     λ i. record { step = step i; count = count i; runs = runs i }
 
 pub place-of-spec : {M : Type 1} → statement M

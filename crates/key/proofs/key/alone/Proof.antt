@@ -1,4 +1,4 @@
--- `line::key::alone` meets its contract. Assumes nothing.
+-- `key::key::alone` meets its contract. Assumes nothing.
 use mathlib.Core.Path.{sym, ap}
 use borrow.Author.Tests.{ne-eqb}
 use Rattle.key.specs.Line.{keyOf}
@@ -40,8 +40,18 @@ returns-8 c = sym (ap keyOf (c .match .keys8))
 returns-9 : tie.Need-returns-9
 unfolding keyOf
 returns-9 c =
-    let k = c .match .rest in
-    rw (ne-eqb _ 83 (k .0 .0 .0 .0 .0 .0 .0 .1), ne-eqb _ 80 (k .0 .0 .0 .0 .0 .0 .1), ne-eqb _ 88 (k .0 .0 .0 .0 .0 .1), ne-eqb _ 70 (k .0 .0 .0 .0 .1), ne-eqb _ 66 (k .0 .0 .0 .1), ne-eqb _ 43 (k .0 .0 .1), ne-eqb _ 45 (k .0 .1), ne-eqb _ 67 (k .1))
+    let none = c .match .rest in
+    let four = none .0 .0 .0 .0 in
+    rw (
+      ne-eqb _ 83 (four .0 .0 .0 .1),
+      ne-eqb _ 80 (four .0 .0 .1),
+      ne-eqb _ 88 (four .0 .1),
+      ne-eqb _ 70 (four .1),
+      ne-eqb _ 66 (none .0 .0 .0 .1),
+      ne-eqb _ 43 (none .0 .0 .1),
+      ne-eqb _ 45 (none .0 .1),
+      ne-eqb _ 67 (none .1),
+    )
 
 pub alone-spec : {M : Type 1} → statement M
 alone-spec =

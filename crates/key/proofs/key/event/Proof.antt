@@ -1,4 +1,4 @@
--- `line::key::event` meets its contract. Assumes nothing.
+-- `key::key::event` meets its contract. Assumes nothing.
 use Rattle.key.proofs.key.event.Statement.{statement}
 use Rattle.key.proofs.key.event.Tie as tie
 

@@ -1,51 +1,53 @@
--- `line::value::number` meets its contract. Assumes nothing.
-use mathlib.Core.Path.{ap, _∙_}
+-- `key::value::number` meets its contract. Assumes nothing.
+use Prim.Native.Nat.{ℕ, _<_}
 use mathlib.Core.List.{List}
-use Prim.Native.Nat.{ℕ}
+use mathlib.Core.Path.{ap, _∙_}
 use native.Mathlib.Omega.{arith}
 use borrow.Author.Needs.{needs}
 use borrow.Author.Tests.{eq-eqb, ne-eqb}
+use denote.Ref.{now}
+use lib.ListN.{length}
 use Rattle.field.proofs.Laws.{field-one}
 use Rattle.key.specs.Line.{unsigned, negated, numberOf}
 use Rattle.key.proofs.Laws.{stands, part}
 use Rattle.key.proofs.value.number.Statement.{statement}
 use Rattle.key.proofs.value.number.Tie as tie
 
-byte-requires : tie.Need-byte-requires
-byte-requires c κs = tt
+-- a text with a minus at its first place is not empty
+some : (c : tie.Then1) → 0 < length (now (c .before .before .before .args .cs))
+some c =
+    let cs = now (c .before .before .before .args .cs) in
+    stands cs 0 (omega (arith, field-one cs 0, c .before .byte .ensures, c .if1 .taken))
 
 sub-digits : tie.Need-sub-digits
-sub-digits c = let e = field-one (c .before .before .before .args .cs .now) 0 in let h = stands (c .before .before .before .args .cs .now) 0 (omega (arith, c .before .byte .ensures, c .if1 .taken)) in omega arith
+sub-digits c = omega (arith, some c)
 
 part-digits-start : tie.Need-part-digits-start
-part-digits-start c = let e = field-one (c .before .before .before .args .cs .now) 0 in stands (c .before .before .before .args .cs .now) 0 (omega (arith, c .before .byte .ensures, c .if1 .taken))
-
-part-digits-end : tie.Need-part-digits-end
-part-digits-end c = search needs
-
-digits-requires : tie.Need-digits-requires
-digits-requires c κs = tt
+part-digits-start c = omega (arith, some c)
 
 returns : tie.Need-returns
 unfolding numberOf
-returns c = rw (← field-one (c .before .before .before .before .before .args .cs .now) 0, ← c .before .before .before .byte .ensures, eq-eqb _ 45 (c .before .before .if1 .taken)) (c .digits .ensures ∙ ap (λ (ds : List ℕ). negated (unsigned ds)) (part 1 (c .before .before .before .before .before .args .cs .now)))
-
-digits-requires-2 : tie.Need-digits-requires-2
-digits-requires-2 c κs = tt
+returns c =
+    let read = c .before .before .before in
+    let cs = now (read .before .before .args .cs) in
+    rw (← field-one cs 0, ← read .byte .ensures, eq-eqb _ 45 (c .before .before .if1 .taken))
+    (c .digits .ensures ∙ ap (λ (ds : List ℕ). negated (unsigned ds)) (part 1 cs))
 
 returns-2 : tie.Need-returns-2
 unfolding numberOf
-returns-2 c = rw (← field-one (c .before .before .before .before .args .cs .now) 0, ← c .before .before .byte .ensures, ne-eqb _ 45 (c .before .if1 .left)) (c .digits2 .ensures)
+returns-2 c =
+    let read = c .before .before in
+    rw (← field-one (now (read .before .before .args .cs)) 0, ← read .byte .ensures, ne-eqb _ 45 (c .before .if1 .left)) (c .digits2 .ensures)
 
 pub number-spec : {M : Type 1} → statement M
 number-spec =
     tie.close
     (tie.spec
-    byte-requires
+    (λ c κs. search needs)
     sub-digits
     part-digits-start
-    part-digits-end
-    digits-requires
+    (λ c. search needs)
+    (λ c κs. search needs)
     returns
-    digits-requires-2
+    (λ c κs. search needs)
     returns-2)

@@ -5,16 +5,16 @@ use Rattle.line.proofs.lines.event.Statement.{statement}
 use Rattle.line.proofs.lines.event.Tie as tie
 
 returns : tie.Need-returns
-returns c = rw (c .before .before .before .before .before .e .given .1) (c .before .before .tick .ensures)
+returns c = rw (c .before .before .before .before .before .event .given .1) (c .before .before .tick .ensures)
 
 returns-2 : tie.Need-returns-2
-returns-2 c = rw (c .before .before .before .before .before .e2 .given .1) (c .before .before .command .ensures)
+returns-2 c = rw (c .before .before .before .before .before .event2 .given .1) (c .before .before .command .ensures)
 
 returns-3 : tie.Need-returns-3
 returns-3 c = rw (c .before .before .before .before .enum-told .given .1) (c .before .before .cut .ensures)
 
 returns-4 : tie.Need-returns-4
-returns-4 c = rw (c .before .before .before .before .before .e3 .given .1) (c .before .before .restore .ensures)
+returns-4 c = rw (c .before .before .before .before .before .event3 .given .1) (c .before .before .restore .ensures)
 
 pub event-spec : {M : Type 1} → statement M
 event-spec =

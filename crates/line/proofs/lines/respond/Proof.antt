@@ -1,31 +1,26 @@
--- `line::lines::respond` meets its contract, by what the line asks for.
+-- `line::lines::respond` meets its contract: a line that asks for an event, and one of any other form.
 -- Assumes nothing.
-use mathlib.Core.Path.{ap}
 use borrow.Author.Needs.{needs}
 use denote.Ref.{now}
-use Rattle.controller.specs.Event.{left}
-use Rattle.answer.specs.Numbers.{numberAndValues}
-use Rattle.answer.specs.declared.Numbers.{Numbers}
-use Rattle.line.specs.Text.{asked}
+use Rattle.plain.specs.Setup.{over}
+use Rattle.controller.specs.Holds.{stateOf, after}
+use Rattle.line.specs.Text.{askedFor}
 use Rattle.line.proofs.Laws.{event-answered}
 use Rattle.line.proofs.lines.respond.Statement.{statement}
 use Rattle.line.proofs.lines.respond.Tie as tie
 
 returns : tie.Need-returns
-unfolding asked
+unfolding askedFor
 returns c = rw (c .enum-told .given .1)
 
 returns-2 : tie.Need-returns-2
-unfolding numberAndValues
 returns-2 c =
-    let start = c .before .before .before .before .before .before .before .before .before .before .before in
-    let b = now (start .args .bank) in
-    let d = now (start .args .store) in
-    let s = start .args .s in
-    let o = c .before .before .before .before .event in
-    let event = c .before .before .before .before .before .before .before .ask .given in
-    rw (event .1)
-    (event-answered b d s (event .0 .0) (left (o .result .state) (o .last .1 .0) (o .result .answer)) (o .ensures) (ap (λ (n : Numbers). n .number) (c .of-answer .ensures)))
+    let a = c .before .before .before .before .before .before .before .before .before .before .before .args in
+    let event = c .before .before .before .before .event in
+    let left = after (event .result .state) (event .last .1 .0) (event .result .answer) in
+    let wanted = c .before .before .before .before .before .before .before .asked .given in
+    rw (wanted .1)
+    (event-answered (over (now (a .bank))) (now (a .store)) (stateOf (a .state)) (wanted .0 .0) left (event .ensures) (c .number .ensures))
 
 pub respond-spec : {M : Type 1} → statement M
 respond-spec =

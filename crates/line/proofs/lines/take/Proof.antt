@@ -10,7 +10,7 @@ use Rattle.line.proofs.lines.take.Statement.{statement}
 use Rattle.line.proofs.lines.take.Tie as tie
 
 -- the line has room for 16 bytes
-long : (c : tie.Start) → length (c .args .x .between .line) ≡ 16
+long : (c : tie.Start) → length (c .args .ran .between .line) ≡ 16
 long c = search needs
 
 returns : tie.Need-returns
@@ -21,15 +21,15 @@ returns-2 : tie.Need-returns-2
 unfolding tookByte
 returns-2 c =
     let start = c .before .before .before .before .before .before in
-    let x = start .args .x .between in
-    rw (ne-eqb _ 10 (c .before .before .if1 .left), kept-more (x .kept) (x .line) (start .args .c) (long start) (c .if2 .taken))
+    let between = start .args .ran .between in
+    rw (ne-eqb _ 10 (c .before .before .if1 .left), kept-more (between .kept) (between .line) (start .args .c) (long start) (c .if2 .taken))
 
 returns-3 : tie.Need-returns-3
 unfolding tookByte
 returns-3 c =
     let start = c .before .before .before .before .before .before in
-    let x = start .args .x .between in
-    rw (ne-eqb _ 10 (c .before .before .if1 .left), ← kept-full (x .kept) (x .line) (start .args .c) (long start) (c .if2 .left))
+    let between = start .args .ran .between in
+    rw (ne-eqb _ 10 (c .before .before .if1 .left), ← kept-full (between .kept) (between .line) (start .args .c) (long start) (c .if2 .left))
 
 pub take-spec : {M : Type 1} → statement M
 take-spec =

@@ -7,6 +7,7 @@ use borrow.Author.Needs.{needs}
 use borrow.Author.Tests.{eq-eqb, ne-eqb}
 use denote.Ref.{now}
 use lib.IntN.{pos}
+use Rattle.decimal.proofs.Laws.{put-is}
 use Rattle.line.specs.Sheet.{creditLines}
 use Rattle.line.proofs.Laws.{line-put, small}
 use Rattle.line.proofs.text.put_credit.Statement.{statement}
@@ -14,17 +15,15 @@ use Rattle.line.proofs.text.put_credit.Tie as tie
 
 returns : tie.Need-returns
 unfolding creditLines
-returns c = rw (eq-eqb _ 0 (c .if1 .taken)) (refl, omega arith)
+returns c = rw (eq-eqb _ 0 (c .if1 .taken)) (put-is refl (omega arith))
 
 returns-2 : tie.Need-returns-2
 unfolding creditLines
 returns-2 c =
-    let start = c .before .before .before .before .before .before .before in
-    let k = start .args .k in
-    let credit = start .args .credit in
-    let e = line-put (now (start .args .out)) (start .args .at) (pos k ∷ pos credit ∷ []) (omega arith)
-    (λ i. small k (omega arith) i ∷ small credit (omega arith) i ∷ []) (c .before .before .put-line .ensures) in
-    rw (ne-eqb credit 0 (c .before .before .before .before .before .if1 .left), append-nil) e
+    let a = c .before .before .before .before .before .before .before .args in
+    rw (ne-eqb (a .credit) 0 (c .before .before .before .before .before .if1 .left), append-nil)
+    (line-put (now (a .out)) (a .at) (pos (a .k) ∷ pos (a .credit) ∷ []) (omega arith)
+    (λ i. small (a .k) (omega arith) i ∷ small (a .credit) (omega arith) i ∷ []) (c .before .before .put-line .ensures))
 
 pub put-credit-spec : {M : Type 1} → statement M
 put-credit-spec =

@@ -2,7 +2,7 @@
 -- Assumes nothing.
 use Prim.Native.Nat.{_≤_}
 use mathlib.Core.List.{[], _∷_, map}
-use mathlib.Core.Path.{refl, sym, ap, _∙_}
+use mathlib.Core.Path.{sym, ap, _∙_}
 use native.Mathlib.Omega.{arith}
 use borrow.Author.Needs.{needs}
 use borrow.Author.Tests.{le-leb, lt-leb}
@@ -19,13 +19,15 @@ use Rattle.line.proofs.text.put_refusal.Statement.{statement}
 use Rattle.line.proofs.text.put_refusal.Tie as tie
 
 returns : tie.Need-returns
-returns c = rw (lt-leb 168 _ (c .if1 .taken)) (refl, refl)
+returns c = rw (lt-leb 168 _ (c .if1 .taken))
 
 -- there are at most three numbers
 counted : (c : tie.After-put-line-arg) → c .before .before .before .before .of-checked .result .count ≤ 3
 unfolding numberAndValues
 counted c =
-    omega (arith, ap (λ (n : Numbers). n .count) (c .before .before .before .before .of-checked .ensures), length-refusal (c .before .before .before .before .before .before .before .args .found))
+    let numbers = c .before .before .before .before .of-checked in
+    let found = c .before .before .before .before .before .before .before .args .found in
+    omega (arith, ap (λ (x : Numbers). x .count) (numbers .ensures), length-refusal found)
 
 slice-aggregate-put-line : tie.Need-slice-aggregate-put-line
 slice-aggregate-put-line c = sym (length-take-le _ _ (counted (c .before)))
@@ -33,17 +35,18 @@ slice-aggregate-put-line c = sym (length-take-le _ _ (counted (c .before)))
 returns-2 : tie.Need-returns-2
 unfolding refusal numberAndValues
 returns-2 c =
-    let start = c .before .before .before .before .before .before .before .before .before .before .before in
-    let out = now (start .args .out) in
-    let ns = bankNumbers (start .args .found) in
-    let n = c .before .before .before .before .before .before .before .before .of-checked in
-    let l = length-refusal (start .args .found) in
-    let e = line-put out 0 (map pos ns) (simp length-map (omega arith))
-    ((λ i. take (n .result .count) (small (n .result .number) (omega arith) i ∷ small (n .result .first) (omega arith) i ∷ small (n .result .second) (omega arith) i ∷ []))
-    ∙ ap (λ (r : Numbers). take (r .count) (pos (r .number) ∷ pos (r .first) ∷ pos (r .second) ∷ [])) (n .ensures)
-    ∙ first-ones ns l)
-    (c .before .before .put-line .ensures) in
-    rw (le-leb 168 (length out) (omega arith)) (e .0, omega (arith, e .1))
+    let a = c .before .before .before .before .before .before .before .before .before .before .before .args in
+    let out = now (a .out) in
+    let numbers = bankNumbers (a .found) in
+    let refusal = c .before .before .before .before .before .before .before .before .of-checked in
+    let x = refusal .result in
+    let few = length-refusal (a .found) in
+    rw (le-leb 168 (length out) (omega arith))
+    (line-put out 0 (map pos numbers) (simp length-map (omega arith))
+    ((λ i. take (x .count) (small (x .number) (omega arith) i ∷ small (x .first) (omega arith) i ∷ small (x .second) (omega arith) i ∷ []))
+    ∙ ap (λ (y : Numbers). take (y .count) (pos (y .number) ∷ pos (y .first) ∷ pos (y .second) ∷ [])) (refusal .ensures)
+    ∙ first-ones numbers few)
+    (c .before .before .put-line .ensures))
 
 pub put-refusal-spec : {M : Type 1} → statement M
 put-refusal-spec =

@@ -1,62 +1,62 @@
--- `time::second` meets its contract. Assumes nothing.
+-- `program::time::second` meets its contract. Assumes nothing.
 use Prim.Native.Nat.{_+_, min}
-use mathlib.Core.Path.{_≡_}
+use mathlib.Core.Path.{_≡_, refl}
 use native.Mathlib.Omega.{arith}
+use borrow.Author.Needs.{needs}
 use borrow.Author.Tests.{lt-ltb, le-ltb}
-use Rattle.program.specs.Program.{secondOf}
+use Rattle.position.specs.Program.{secondPosition}
 use Rattle.program.proofs.time.second.Statement.{statement}
 use Rattle.program.proofs.time.second.Tie as tie
 
-endless-requires : tie.Need-endless-requires
-endless-requires c κs = tt
-
-add-p : tie.Need-add-p
-add-p c = omega arith
+-- ---- endless
 
 returns : tie.Need-returns
-unfolding secondOf
-returns c = let e : min (c .before .before .before .before .before .args .p .elapsed + 1) 359999 ≡ c .before .before .before .before .before .args .p .elapsed + 1 = omega (arith, c .before .if2 .taken) in
-    rw (← c .before .before .before .before .endless .ensures, c .before .before .before .if1 .taken, e)
+unfolding secondPosition
+returns c =
+    let h = c .before .before .before in
+    let m : min (h .before .args .position .elapsed + 1) 359999 ≡ h .before .args .position .elapsed + 1 = omega (arith, c .before .if2 .taken) in
+    rw (h .if1 .taken, m) refl
 
 returns-2 : tie.Need-returns-2
-unfolding secondOf
-returns-2 c = let e : min (c .before .before .before .before .args .p .elapsed + 1) 359999 ≡ 359999 = omega (arith, c .if2 .left) in
-    rw (← c .before .before .before .endless .ensures, c .before .before .if1 .taken, e)
+unfolding secondPosition
+returns-2 c =
+    let h = c .before .before in
+    let m : min (h .before .args .position .elapsed + 1) 359999 ≡ 359999 = omega (arith, c .if2 .left) in
+    rw (h .if1 .taken, m) refl
 
-seconds-requires : tie.Need-seconds-requires
-seconds-requires c κs = tt
-
-add-p-2 : tie.Need-add-p-2
-add-p-2 c = omega arith
+-- ---- its time
 
 returns-3 : tie.Need-returns-3
-unfolding secondOf
-returns-3 c = rw (← c .before .before .before .before .before .endless .ensures, c .before .before .before .before .if1 .left, ← c .before .before .before .seconds .ensures, lt-ltb _ _ (c .before .if3 .taken))
+unfolding secondPosition
+returns-3 c = rw (c .before .before .before .before .if1 .left, lt-ltb _ _ (c .before .if3 .taken)) refl
 
-add-p-3 : tie.Need-add-p-3
-add-p-3 c = omega arith
+-- ---- its wait
 
 returns-4 : tie.Need-returns-4
-unfolding secondOf
-returns-4 c = let e : min (c .before .before .before .before .before .before .before .before .args .p .waited + 1) 4294967295 ≡ c .before .before .before .before .before .before .before .before .args .p .waited + 1 = omega (arith, c .before .if4 .taken) in
-    rw (← c .before .before .before .before .before .before .before .endless .ensures, c .before .before .before .before .before .before .if1 .left, ← c .before .before .before .before .before .seconds .ensures, le-ltb _ _ (c .before .before .before .if3 .left), e)
+unfolding secondPosition
+returns-4 c =
+    let g = c .before .before .before in
+    let h = g .before .before .before in
+    let m : min (h .before .args .position .waited + 1) 4294967295 ≡ h .before .args .position .waited + 1 = omega (arith, c .before .if4 .taken) in
+    rw (h .if1 .left, le-ltb _ _ (g .if3 .left), m) refl
 
 returns-5 : tie.Need-returns-5
-unfolding secondOf
-returns-5 c = let e : min (c .before .before .before .before .before .before .before .args .p .waited + 1) 4294967295 ≡ 4294967295 = omega (arith, c .if4 .left) in
-    rw (← c .before .before .before .before .before .before .endless .ensures, c .before .before .before .before .before .if1 .left, ← c .before .before .before .before .seconds .ensures, le-ltb _ _ (c .before .before .if3 .left), e)
+unfolding secondPosition
+returns-5 c =
+    let g = c .before .before in
+    let h = g .before .before .before in
+    let m : min (h .before .args .position .waited + 1) 4294967295 ≡ 4294967295 = omega (arith, c .if4 .left) in
+    rw (h .if1 .left, le-ltb _ _ (g .if3 .left), m) refl
 
 pub second-spec : {M : Type 1} → statement M
 second-spec =
     tie.close
     (tie.spec
-    endless-requires
-    add-p
+    (λ c. search needs)
     returns
     returns-2
-    seconds-requires
-    add-p-2
+    (λ c. search needs)
     returns-3
-    add-p-3
+    (λ c. search needs)
     returns-4
     returns-5)

@@ -20,8 +20,10 @@ returns-2 c =
 returns-3 : tie.Need-returns-3
 unfolding settingsFound
 returns-3 c =
-    sym (goes (c .before .before .before .before .before .before .before .before .before .before .check-head .ensures) (c .before .before .before .before .before .before .before .before .before .match .keys1)
-    ∙ goes (c .before .before .before .before .before .check-halves .ensures) (c .before .before .before .before .match2 .keys1)
+    let waits = c .before .before .before .before in
+    let head = waits .before .before .before .before .before in
+    sym (goes (head .before .check-head .ensures) (head .match .keys1)
+    ∙ goes (waits .before .check-halves .ensures) (waits .match2 .keys1)
     ∙ sym (c .check-halves2 .ensures))
 
 pub check-spec : {M : Type 1} → statement M

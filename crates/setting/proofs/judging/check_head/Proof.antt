@@ -16,57 +16,81 @@ use Rattle.setting.proofs.judging.check_head.Tie as tie
 
 -- i tests passed
 abbrev Past : Settings → ℕ → Type 0
-Past s i = headFound s ≡ firstOf Accepted (drop i (headRows s))
+Past settings i = headFound settings ≡ firstOf Accepted (drop i (headRows settings))
+
+-- the settings, as they are known past each test
+abbrev in1 : tie.Else1 → Settings
+in1 c = c .before .before .before .args .settings
+
+abbrev in2 : tie.Else2 → Settings
+in2 c = in1 (c .before .before)
+
+abbrev in3 : tie.Else3 → Settings
+in3 c = in2 (c .before .before)
+
+abbrev in4 : tie.Else4 → Settings
+in4 c = in3 (c .before .before .before)
+
+abbrev in5 : tie.Else5 → Settings
+in5 c = in4 (c .before .before .before .before)
+
+abbrev in6 : tie.Else6 → Settings
+in6 c = in5 (c .before .before .before .before .before)
+
+abbrev in7 : tie.Else7 → Settings
+in7 c = in6 (c .before .before)
+
+abbrev in8 : tie.Else8 → Settings
+in8 c = in7 (c .before .before)
 
 -- what the calls say, of the settings themselves
-low-said : (c : tie.After-is-temperature) → c .is-temperature .result ≡ temperature (c .before .before .before .before .before .before .before .before .before .args .s .low)
+low-said : (c : tie.After-is-temperature) → c .is-temperature .result ≡ temperature (in3 (c .before .before) .low)
 low-said c = c .is-temperature .ensures ∙ ap temperature (bits (c .before .struct-told .given .1 .1 .1 .0 .1))
 
-high-said : (c : tie.After-is-above) → let s = c .before .before .before .before .before .before .before .before .before .before .before .before .before .args .s in c .is-above .result ≡ both (temperature (s .high)) (ltZ (s .low) (s .high))
+high-said : (c : tie.After-is-above) → let settings = in4 (c .before .before .before) in c .is-above .result ≡ both (temperature (settings .high)) (ltZ (settings .low) (settings .high))
 high-said c =
-    let start = c .before .before .before .before .before .before .before .before .before .before .before .before .before in
-    let s = start .args .s in
+    let settings = in4 (c .before .before .before) in
     let t = c .before .before .before .before .before .struct-told .given in
-    let low = bits {z = s .low} (t .1 .1 .1 .0 .1) in
-    let high = bits {z = s .high} (t .1 .1 .1 .1 .0 .1) in
+    let low = bits {z = settings .low} (t .1 .1 .1 .0 .1) in
+    let high = bits {z = settings .high} (t .1 .1 .1 .1 .0 .1) in
     c .is-above .ensures ∙ (λ i. both (temperature (high i)) (ltZ (low i) (high i)))
 
-initial-said : (c : tie.After-in-limits) → let s = c .before .before .before .before .before .before .before .before .before .before .before .before .before .before .before .before .before .before .args .s in c .in-limits .result ≡ within (s .low) (s .initial) (s .high)
+initial-said : (c : tie.After-in-limits) → let settings = in5 (c .before .before .before .before) in c .in-limits .result ≡ within (settings .low) (settings .initial) (settings .high)
 initial-said c =
-    let start = c .before .before .before .before .before .before .before .before .before .before .before .before .before .before .before .before .before .before in
-    let s = start .args .s in
+    let settings = in5 (c .before .before .before .before) in
     let t = c .before .before .before .before .before .before .before .before .before .before .struct-told .given in
-    c .in-limits .ensures ∙ within-bits {x = s .initial} (record { sfits = t .1 .1 .1 .0 .1 }) (record { sfits = t .1 .1 .1 .1 .1 .0 .1 }) (record { sfits = t .1 .1 .1 .1 .0 .1 })
+    c .in-limits .ensures
+    ∙ within-bits {x = settings .initial} (record { sfits = t .1 .1 .1 .0 .1 }) (record { sfits = t .1 .1 .1 .1 .1 .0 .1 }) (record { sfits = t .1 .1 .1 .1 .0 .1 })
 
-past1 : (c : tie.Else1) → Past (c .before .before .before .args .s) 1
+past1 : (c : tie.Else1) → Past (in1 c) 1
 unfolding headFound between
 past1 c = refl ∙ first-on 0 _ (passed (sym (both-and _ _)) (c .if1 .left))
 
-past2 : (c : tie.Else2) → Past (c .before .before .before .before .before .args .s) 2
+past2 : (c : tie.Else2) → Past (in2 c) 2
 unfolding headFound
 past2 c = past1 (c .before .before) ∙ first-on 1 _ (to _ _ (le-leb _ _ (c .if2 .left)))
 
-past3 : (c : tie.Else3) → Past (c .before .before .before .before .before .before .before .args .s) 3
+past3 : (c : tie.Else3) → Past (in3 c) 3
 unfolding headFound
 past3 c = past2 (c .before .before) ∙ first-on 2 _ (to _ _ (le-leb _ _ (c .if3 .left)))
 
-past4 : (c : tie.Else4) → Past (c .before .before .before .before .before .before .before .before .before .before .args .s) 4
+past4 : (c : tie.Else4) → Past (in4 c) 4
 unfolding headFound
 past4 c = past3 (c .before .before .before) ∙ first-on 3 _ (passed (low-said (c .before)) (c .if4 .left))
 
-past5 : (c : tie.Else5) → Past (c .before .before .before .before .before .before .before .before .before .before .before .before .before .before .args .s) 5
+past5 : (c : tie.Else5) → Past (in5 c) 5
 unfolding headFound
 past5 c = past4 (c .before .before .before .before) ∙ first-on 5 _ (passed (high-said (c .before)) (c .if5 .left))
 
-past6 : (c : tie.Else6) → Past (c .before .before .before .before .before .before .before .before .before .before .before .before .before .before .before .before .before .before .before .args .s) 6
+past6 : (c : tie.Else6) → Past (in6 c) 6
 unfolding headFound
 past6 c = past5 (c .before .before .before .before .before) ∙ first-on 7 _ (passed (initial-said (c .before)) (c .if6 .left))
 
-past7 : (c : tie.Else7) → Past (c .before .before .before .before .before .before .before .before .before .before .before .before .before .before .before .before .before .before .before .before .before .args .s) 7
+past7 : (c : tie.Else7) → Past (in7 c) 7
 unfolding headFound
 past7 c = past6 (c .before .before) ∙ first-on 9 _ (to _ _ (le-leb _ _ (c .if7 .left)))
 
-past8 : (c : tie.Else8) → Past (c .before .before .before .before .before .before .before .before .before .before .before .before .before .before .before .before .before .before .before .before .before .before .before .args .s) 8
+past8 : (c : tie.Else8) → Past (in8 c) 8
 unfolding headFound
 past8 c = past7 (c .before .before) ∙ first-on 11 _ (to _ _ (le-leb _ _ (c .if8 .left)))
 

@@ -1,5 +1,6 @@
 -- `setting::range::in_limits` meets its contract.
 -- Assumes nothing.
+use mathlib.Core.Path.{sym}
 use mir.Facts.{toZ-ofZ}
 use Rattle.setting.proofs.Laws.{both-and}
 use Rattle.setting.specs.Range.{within}
@@ -8,7 +9,7 @@ use Rattle.setting.proofs.range.in_limits.Tie as tie
 
 returns : tie.Need-returns
 unfolding within
-returns c = rw (toZ-ofZ (c .fits .low), toZ-ofZ (c .fits .x), toZ-ofZ (c .fits .high)) (simp both-and)
+returns c = rw (toZ-ofZ (c .fits .low), toZ-ofZ (c .fits .x), toZ-ofZ (c .fits .high)) (sym (both-and _ _))
 
 pub in-limits-spec : {M : Type 1} → statement M
 in-limits-spec = tie.close (tie.spec returns)

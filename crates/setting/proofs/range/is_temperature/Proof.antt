@@ -1,5 +1,6 @@
 -- `setting::range::is_temperature` meets its contract.
 -- Assumes nothing.
+use mathlib.Core.Path.{sym}
 use mir.Facts.{toZ-ofZ}
 use Rattle.setting.proofs.Laws.{both-and}
 use Rattle.setting.specs.Range.{within, temperature}
@@ -8,7 +9,7 @@ use Rattle.setting.proofs.range.is_temperature.Tie as tie
 
 returns : tie.Need-returns
 unfolding temperature within
-returns c = rw (toZ-ofZ (c .fits .x)) (simp both-and)
+returns c = rw (toZ-ofZ (c .fits .x)) (sym (both-and _ _))
 
 pub is-temperature-spec : {M : Type 1} → statement M
 is-temperature-spec = tie.close (tie.spec returns)

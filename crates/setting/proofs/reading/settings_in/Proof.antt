@@ -22,9 +22,9 @@ returns c =
     let low = high .before .before .before .before in
     let off = low .before .before .before .before .before .before .before in
     let start = off .before .before .before .before .before in
-    let b = now (start .args .bank) in
-    let byte : (i : ℕ) → getD b i 0 ≡ field 1 b i = λ i. sym (field-one b i) in
-    let word : (i : ℕ) → getD b i 0 + 256 * getD b (i + 1) 0 ≡ field 2 b i = λ i. sym (field-two b i) in
+    let bytes = now (start .args .bank) in
+    let byte : (i : ℕ) → getD bytes i 0 ≡ field 1 bytes i = λ i. sym (field-one bytes i) in
+    let word : (i : ℕ) → getD bytes i 0 + 256 * getD bytes (i + 1) 0 ≡ field 2 bytes i = λ i. sym (field-two bytes i) in
     λ i. record {
       patterns = byte 0 i;
       start = byte 1 i;

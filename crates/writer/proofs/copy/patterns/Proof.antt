@@ -38,8 +38,8 @@ there : (c : tie.In-loop Inv-loop μ-loop) →
     (c .before .loop .p < n) × (1 ≤ n) × (n ≤ 15)
 there c =
     let start = c .before .before .before .before in
-    let range = count-range (now (start .args .bank)) (start .pre .0) in
-    (omega (arith, c .loop-test .taken, start .pre .1), range .0, range .1)
+    let range = count-range (now (start .args .bank)) (start .pre .ok) in
+    (omega (arith, c .loop-test .taken, start .pre .count), range .0, range .1)
 
 -- there is room for its steps
 room : (c : tie.After-place-of Inv-loop μ-loop) →
@@ -49,10 +49,10 @@ room : (c : tie.After-place-of Inv-loop μ-loop) →
 room c =
     let start = c .before .before .before .before .before in
     let l = c .before .before .loop in
-    let b = now (start .args .bank) in
+    let bank = now (start .args .bank) in
     let h = there (c .before) in
-    let fits = subst (λ (k : ℕ). k ≤ capacityOf (field 1 b 0)) (sym (said c .1)) (count-in b (start .pre .0) (l .p) (h .0)) in
-    (grown (l .base) (c .place-of .result .count) (l .p) (capacityOf (field 1 b 0)) (l .inv .1) fits, all-fit (field 1 b 0) (l .p + 1) (h .1) (h .2) (add-one-le (h .0)))
+    let fits = subst (λ (size : ℕ). size ≤ capacityOf (field 1 bank 0)) (sym (said c .1)) (count-in bank (start .pre .ok) (l .p) (h .0)) in
+    (grown (l .base) (c .place-of .result .count) (l .p) (capacityOf (field 1 bank 0)) (l .inv .1) fits, all-fit (field 1 bank 0) (l .p + 1) (h .1) (h .2) (add-one-le (h .0)))
 
 loop-holds : tie.Need-loop-holds Inv-loop μ-loop
 loop-holds c = (zero-le, zero-le, laid-start (now (c .before .before .args .bank)) (c .no-step .ensures))
@@ -64,13 +64,13 @@ loop-again c =
     let h = there (c .before .before .before) .0 in
     let say = said (c .before .before) in
     let into : Patterns = record { runs = l .runs; counts = l .counts; steps = l .steps } in
-    (add-one-le h, room (c .before .before) .0, copied-turn (now (start .args .bank)) (start .pre .0) (l .p) h into (l .base) (say .0) (say .1) (c .before .with-steps .ensures) ∙ l .inv .2)
+    (add-one-le h, room (c .before .before) .0, copied-turn (now (start .args .bank)) (start .pre .ok) (l .p) h into (l .base) (say .0) (say .1) (c .before .with-steps .ensures) ∙ l .inv .2)
 
 returns : tie.Need-returns Inv-loop μ-loop
 returns c =
     let start = c .before .before .before .before in
     let l = c .before .loop in
-    laid-end (now (start .args .bank)) (l .p) (omega (arith, c .loop-test .left, start .pre .1)) (record { runs = l .runs; counts = l .counts; steps = l .steps }) (l .base) ∙ l .inv .2
+    laid-end (now (start .args .bank)) (l .p) (omega (arith, c .loop-test .left, start .pre .count)) (record { runs = l .runs; counts = l .counts; steps = l .steps }) (l .base) ∙ l .inv .2
 
 pub patterns-spec : {M : Type 1} → statement M
 patterns-spec =

@@ -15,8 +15,8 @@ returns : tie.Need-returns
 unfolding refusedAs laidOut allSteps
 returns c =
     let none = c .before .before in
-    let whole : Settings → Step → Bank = λ s x. record { found = none .before .args .found; settings = s; patterns = empty x } in
-    ap (whole (c .read-settings .result)) (none .no-step .ensures) ∙ ap (λ (s : Settings). whole s noStep) (c .read-settings .ensures)
+    let whole : Settings → Step → Bank = λ settings x. record { found = none .before .args .found; settings = settings; patterns = empty x } in
+    ap (whole (c .read-settings .result)) (none .no-step .ensures) ∙ ap (λ (settings : Settings). whole settings noStep) (c .read-settings .ensures)
 
 pub refused-spec : {M : Type 1} → statement M
 refused-spec = tie.close (tie.spec (λ c κs. tt) (λ c. omega arith) (λ c κs. tt) returns)

@@ -21,13 +21,13 @@ Inv-loop ps n base₀ p₀ base p = (p ≤ n) × (n ≤ 15) × (base ≡ sumTo (
 abbrev μ-loop : tie.MeasureT-loop
 μ-loop ps n base₀ p₀ base p = n - p
 
-fit : (c : tie.Start Inv-loop μ-loop) → Fit (c .args .s .patterns) (c .args .t2)
-fit c = fit-of (c .args .s) (c .args .t2) (c .pre)
+fit : (c : tie.Start Inv-loop μ-loop) → Fit (c .args .settings .patterns) (c .args .t2)
+fit c = fit-of (c .args .settings) (c .args .t2) (c .pre)
 
 -- there is a pattern, and there are at most 99 steps
 room : (c : tie.In-loop Inv-loop μ-loop) →
     let l = c .before .loop in
-    (l .p < c .before .before .before .args .s .patterns) × (c .before .before .before .args .s .patterns ≤ 15) × (l .base + countAt (c .before .before .before .args .t2) (l .p) ≤ 99)
+    (l .p < c .before .before .before .args .settings .patterns) × (c .before .before .before .args .settings .patterns ≤ 15) × (l .base + countAt (c .before .before .before .args .t2) (l .p) ≤ 99)
 room c =
     let l = c .before .loop in
     let next = next-in _ _ (fit (c .before .before .before)) (l .p) (c .loop-test .taken) in
@@ -45,12 +45,12 @@ loop-again c =
 returns : tie.Need-returns Inv-loop μ-loop
 returns c =
     let start = c .before .before .before in
-    let s = start .args .s in
+    let settings = start .args .settings in
     let ps = start .args .t2 in
     let l = c .before .loop in
-    let e : l .p ≡ s .patterns = omega (arith, l .inv .0, c .loop-test .left) in
-    l .inv .2 ∙ ap (sumTo (ps .counts)) e ∙ sym (length-all ps (s .patterns) (fit start) (patterns-fit ps _ (start .good .1 .0) .size))
-    ∙ ap (λ (xs : List Pattern). length (allSteps xs)) (sym (taken-all s ps))
+    let same : l .p ≡ settings .patterns = omega (arith, l .inv .0, c .loop-test .left) in
+    l .inv .2 ∙ ap (sumTo (ps .counts)) same ∙ sym (length-all ps (settings .patterns) (fit start) (patterns-fit ps _ (start .good .1 .0) .size))
+    ∙ ap (λ (xs : List Pattern). length (allSteps xs)) (sym (taken-all settings ps))
 
 pub count-steps-spec : {M : Type 1} → statement M
 count-steps-spec =

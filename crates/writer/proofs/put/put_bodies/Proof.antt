@@ -27,13 +27,13 @@ Inv-loop out₀ from ps n at₀ base₀ p₀ out at base p =
 abbrev μ-loop : tie.MeasureT-loop
 μ-loop out₀ from ps n at₀ base₀ p₀ out at base p = n - p
 
-fit : (c : tie.Start Inv-loop μ-loop) → Fit (c .args .s .patterns) (c .args .t4)
-fit c = fit-of (c .args .s) (c .args .t4) (c .pre .0)
+fit : (c : tie.Start Inv-loop μ-loop) → Fit (c .args .settings .patterns) (c .args .t4)
+fit c = fit-of (c .args .settings) (c .args .t4) (c .pre .right)
 
 -- there is a pattern, its steps are there, and its body has room
 room : (c : tie.In-loop Inv-loop μ-loop) →
     let ps = c .before .before .before .before .args .t4 in
-    let n = c .before .before .before .before .args .s .patterns in
+    let n = c .before .before .before .before .args .settings .patterns in
     let l = c .before .loop in
     let count = countAt ps (l .p) in
     (l .p < n) × (n ≤ 15) × (l .base ≡ sumTo (ps .counts) (l .p)) × (l .base + count ≤ 99) × (sumTo (ps .counts) (l .p) + count ≤ length (ps .steps))
@@ -42,7 +42,7 @@ room c =
     let start = c .before .before .before .before in
     let ps = start .args .t4 in
     let l = c .before .loop in
-    let n = start .args .s .patterns in
+    let n = start .args .settings .patterns in
     let h = c .loop-test .taken in
     let few = next-in n ps (fit start) (l .p) h in
     let there : sumTo (ps .counts) (l .p) + countAt ps (l .p) ≤ length (ps .steps) = omega (arith, few, patterns-fit ps _ (start .good .1 .1 .1 .0) .size) in
@@ -53,8 +53,13 @@ loop-holds : tie.Need-loop-holds Inv-loop μ-loop
 unfolding sumTo
 loop-holds c =
     let start = c .before .before in
-    let same = ap (λ (xs : List Pattern). length (bodiesBytes xs)) (taken-rest (start .args .s) (start .args .t4)) in
-    (zero-le, fit start .few, refl, omega (arith, same, start .pre .1), refl, refl)
+    let same = ap (λ (xs : List Pattern). length (bodiesBytes xs)) (taken-rest (start .args .settings) (start .args .t4)) in
+    (zero-le, fit start .few, refl, omega (arith, same, start .pre .fits), refl, refl)
+
+put-body-requires : tie.Need-put-body-requires Inv-loop μ-loop
+put-body-requires c κs =
+    let known = room (c .before .before .before .before) in
+    record { steps = known .3; fits = omega (arith, known .5) }
 
 loop-again : tie.Need-loop-again Inv-loop μ-loop
 loop-again c =
@@ -62,13 +67,13 @@ loop-again c =
     let ps = a .t4 in
     let l = c .before .before .before .before .before .before .before .before .loop in
     let put = c .before .before .put-body in
-    let r = room (c .before .before .before .before .before .before .before) in (
-      add-one-le (r .0),
+    let known = room (c .before .before .before .before .before .before .before) in (
+      add-one-le (known .0),
       l .inv .1,
-      omega (arith, r .2, sum-more (ps .counts) (l .p)),
-      omega (arith, r .5, put .kept .0),
+      omega (arith, known .2, sum-more (ps .counts) (l .p)),
+      omega (arith, known .5, put .kept .0),
       put .kept .0 ∙ l .inv .4,
-      l .inv .5 ∙ bodies-turn ps (a .s .patterns) (l .p) (r .0) (r .4) (l .out) (l .at) (l .base) (r .2) (put .ensures),
+      l .inv .5 ∙ bodies-turn ps (a .settings .patterns) (l .p) (known .0) (known .4) (l .out) (l .at) (l .base) (known .2) (put .ensures),
     )
 
 returns : tie.Need-returns Inv-loop μ-loop
@@ -76,10 +81,10 @@ unfolding bodiesBytes
 returns c =
     let start = c .before .before .before .before in
     let l = c .before .loop in
-    let s = start .args .s in
+    let settings = start .args .settings in
     let ps = start .args .t4 in
-    sym (ap (λ (xs : List Pattern). sets (now (start .args .out)) (start .args .from) (bodiesBytes xs)) (taken-rest s ps)
-    ∙ l .inv .5 ∙ ap (λ (xs : List Pattern). sets (l .out) (l .at) (bodiesBytes xs)) (rest-end (patternIn ps) (s .patterns) (l .p) (c .loop-test .left)))
+    sym (ap (λ (xs : List Pattern). sets (now (start .args .out)) (start .args .from) (bodiesBytes xs)) (taken-rest settings ps)
+    ∙ l .inv .5 ∙ ap (λ (xs : List Pattern). sets (l .out) (l .at) (bodiesBytes xs)) (rest-end (patternIn ps) (settings .patterns) (l .p) (c .loop-test .left)))
 
 pub put-bodies-spec : {M : Type 1} → statement M
 put-bodies-spec =
@@ -91,7 +96,7 @@ put-bodies-spec =
     loop-holds
     (λ c. omega (arith, room c))
     (λ c. omega (arith, room (c .before .before)))
-    (λ c κs. omega (arith, room (c .before .before .before .before)))
+    put-body-requires
     (λ c. omega (arith, room (c .before .before .before .before .before .before .before)))
     (λ c. omega (arith, room (c .before .before .before .before .before .before .before)))
     (λ c. omega (arith, room (c .before .before .before .before .before .before .before)))

@@ -40,7 +40,7 @@ room c =
     let h = c .loop-test .taken in
     let small = start .good .0 .0 in
     let long = c .before .loop .inv .1 ∙ c .before .before .before .before .put-row .kept .0 in
-    (h, start .pre .0, omega (arith, h, start .pre, long), omega (arith, small, long), omega (arith, h, start .pre, all))
+    (h, start .pre .steps, omega (arith, h, start .pre .fits, long), omega (arith, small, long), omega (arith, h, start .pre .steps, all))
 
 loop-holds : tie.Need-loop-holds Inv-loop μ-loop
 loop-holds c =
@@ -51,11 +51,11 @@ loop-again : tie.Need-loop-again Inv-loop μ-loop
 loop-again c =
     let a = c .before .before .before .before .before .before .before .before .before .before .before .before .before .before .args in
     let l = c .before .before .before .before .before .before .loop in
-    let r = room (c .before .before .before .before .before) in
+    let known = room (c .before .before .before .before .before) in
     let step = c .before .before .put-step in
     let at = a .at + 2 + 9 * l .k in
-    let turn = steps-turn (a .t5) (a .base) (a .count) (l .k) _ (r .0) (r .4) (l .out) at (a .at + 2 + 9 * (l .k + 1)) (step .ensures) (next-place (a .at + 2) 9 (l .k)) in
-    (add-one-le (r .0), step .kept .0 ∙ l .inv .1, l .inv .2 ∙ turn)
+    let turn = steps-turn (a .t5) (a .base) (a .count) (l .k) _ (known .0) (known .4) (l .out) at (a .at + 2 + 9 * (l .k + 1)) (step .ensures) (next-place (a .at + 2) 9 (l .k)) in
+    (add-one-le (known .0), step .kept .0 ∙ l .inv .1, l .inv .2 ∙ turn)
 
 returns : tie.Need-returns Inv-loop μ-loop
 unfolding stepsBytes total
@@ -66,7 +66,7 @@ returns c =
     let out = now (a .out) in
     let head = row (1 ∷ 1 ∷ []) (a .runs ∷ a .count ∷ []) in
     let steps = stepsBytes (take (a .count) (drop (a .base) (a .t5))) in
-    let put = row-put (1 ∷ 1 ∷ []) out (a .at) (a .runs ∷ a .count ∷ []) (c .before .before .before .before .put-row .ensures) refl (omega arith) (omega (arith, start .pre .1)) in
+    let put = row-put (1 ∷ 1 ∷ []) out (a .at) (a .runs ∷ a .count ∷ []) (c .before .before .before .before .put-row .ensures) refl (omega arith) (omega (arith, start .pre .fits)) in
     sym (sets-then out head steps (a .at) (a .at + 2) put (omega (arith, length-two 1 1 (a .runs) (a .count)))
     ∙ l .inv .2 ∙ ap (λ (ss : List Step). sets (l .out) (a .at + 2 + 9 * l .k) (stepsBytes ss)) (part-end (a .t5) (a .base) (a .count) (l .k) (c .loop-test .left)))
 

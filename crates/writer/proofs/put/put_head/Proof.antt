@@ -11,20 +11,20 @@ use Rattle.writer.proofs.Rows.{row-put, bits-put}
 use Rattle.writer.proofs.put.put_head.Statement.{statement}
 use Rattle.writer.proofs.put.put_head.Tie as tie
 
-fits : (c : tie.Start) → SettingsFit (c .args .s)
-fits c = settings-fit (c .args .s) _ (c .good .1 .0)
+fits : (c : tie.Start) → SettingsFit (c .args .settings)
+fits c = settings-fit (c .args .settings) _ (c .good .1 .0)
 
 returns : tie.Need-returns
 unfolding total
 returns c =
     let start = c .before .before .before .before .before .before .before .before .before .before .before .before .before .before .before .before .before .before in
-    let s = start .args .s in
+    let settings = start .args .settings in
     let fit = fits start in
     let low = bits-put (fit .low) (c .before .before .before .before .before .before .before .before .before .before .before .before .bits .ensures) in
     let high = bits-put (fit .high) (c .before .before .before .before .before .before .before .before .before .before .bits2 .ensures) in
     let initial = bits-put (fit .initial) (c .before .before .before .before .before .before .before .before .bits3 .ensures) in
     row-put (take 8 settingWidths) (now (start .args .out)) 0 _ (c .before .before .put-row .ensures)
-    (λ i. s .patterns ∷ s .start ∷ s .outage ∷ low i ∷ high i ∷ initial i ∷ s .width ∷ s .filter ∷ []) (omega arith) (omega (arith, start .pre))
+    (λ i. settings .patterns ∷ settings .start ∷ settings .outage ∷ low i ∷ high i ∷ initial i ∷ settings .width ∷ settings .filter ∷ []) (omega arith) (omega (arith, start .pre))
 
 pub put-head-spec : {M : Type 1} → statement M
 put-head-spec =

@@ -29,12 +29,12 @@ Inv-loop out₀ ps n widths due₀ p₀ out due p =
 abbrev μ-loop : tie.MeasureT-loop
 μ-loop out₀ ps n widths due₀ p₀ out due p = n - p
 
-fit : (c : tie.Start Inv-loop μ-loop) → Fit (c .args .s .patterns) (c .args .t3)
-fit c = fit-of (c .args .s) (c .args .t3) (c .pre .0)
+fit : (c : tie.Start Inv-loop μ-loop) → Fit (c .args .settings .patterns) (c .args .t3)
+fit c = fit-of (c .args .settings) (c .args .t3) (c .pre .right)
 
 -- there is a pattern, and its steps are there
 room : (c : tie.In-loop Inv-loop μ-loop) →
-    let n = c .before .before .before .before .args .s .patterns in
+    let n = c .before .before .before .before .args .settings .patterns in
     let ps = c .before .before .before .before .args .t3 in
     let l = c .before .loop in
     (l .p < n) × (n ≤ 15) × (l .due ≤ 105 + 3000 * l .p) × (sumTo (ps .counts) (l .p) + countAt ps (l .p) ≤ 99)
@@ -53,17 +53,17 @@ loop-again c =
     let start = c .before .before .before .before .before .before .before .before .before .before .before in
     let ps = start .args .t3 in
     let l = c .before .before .before .before .before .before .before .before .loop in
-    let r = room (c .before .before .before .before .before .before .before) in
+    let known = room (c .before .before .before .before .before .before .before) in
     let at = 45 + 4 * l .p in
     let size = 2 + 9 * countAt ps (l .p) in
-    let fits : at + 4 ≤ length (l .out) = omega (arith, r, start .pre .1, l .inv .3) in
-    let there : sumTo (ps .counts) (l .p) + countAt ps (l .p) ≤ length (ps .steps) = omega (arith, r, patterns-fit ps _ (start .good .1 .1 .0) .size) in
+    let fits : at + 4 ≤ length (l .out) = omega (arith, known, start .pre .fits, l .inv .3) in
+    let there : sumTo (ps .counts) (l .p) + countAt ps (l .p) ≤ length (ps .steps) = omega (arith, known, patterns-fit ps _ (start .good .1 .1 .0) .size) in
     let put = row-put (2 ∷ 2 ∷ []) (l .out) at (l .due ∷ size ∷ []) (c .before .before .put-row .ensures) refl (omega arith) (omega (arith, fits)) in (
-      add-one-le (r .0),
+      add-one-le (known .0),
       l .inv .1,
-      omega (arith, r),
+      omega (arith, known),
       c .before .before .put-row .kept .0 ∙ l .inv .3,
-      l .inv .4 ∙ pairs-turn ps (start .args .s .patterns) (l .p) (r .0) there (l .out) (l .due) at (45 + 4 * (l .p + 1)) put (next-place 45 4 (l .p)),
+      l .inv .4 ∙ pairs-turn ps (start .args .settings .patterns) (l .p) (known .0) there (l .out) (l .due) at (45 + 4 * (l .p + 1)) put (next-place 45 4 (l .p)),
     )
 
 returns : tie.Need-returns Inv-loop μ-loop
@@ -71,10 +71,10 @@ unfolding pairsBytes
 returns c =
     let start = c .before .before .before .before in
     let l = c .before .loop in
-    let s = start .args .s in
+    let settings = start .args .settings in
     let ps = start .args .t3 in
-    sym (ap (λ (xs : List Pattern). sets (now (start .args .out)) 45 (pairsBytes (45 + 4 * s .patterns) xs)) (taken-rest s ps)
-    ∙ l .inv .4 ∙ ap (λ (xs : List Pattern). sets (l .out) (45 + 4 * l .p) (pairsBytes (l .due) xs)) (rest-end (patternIn ps) (s .patterns) (l .p) (c .loop-test .left)))
+    sym (ap (λ (xs : List Pattern). sets (now (start .args .out)) 45 (pairsBytes (45 + 4 * settings .patterns) xs)) (taken-rest settings ps)
+    ∙ l .inv .4 ∙ ap (λ (xs : List Pattern). sets (l .out) (45 + 4 * l .p) (pairsBytes (l .due) xs)) (rest-end (patternIn ps) (settings .patterns) (l .p) (c .loop-test .left)))
 
 pub put-pairs-spec : {M : Type 1} → statement M
 put-pairs-spec =

@@ -33,14 +33,14 @@ returns : tie.Need-returns
 unfolding total
 returns c =
     let start = c .before .before .before .before .before .before .before .before .before .before .before .before .before .before .before .before .before in
-    let s = start .args .s in
+    let settings = start .args .settings in
     let out = now (start .args .out) in
-    let head = take 8 (settingNumbers s) in
-    let waiting = paired (s .zones) (s .waits) in
-    let signals = paired (s .on) (s .off) in
+    let head = take 8 (settingNumbers settings) in
+    let waiting = paired (settings .zones) (settings .waits) in
+    let signals = paired (settings .on) (settings .off) in
     let two : List ℕ = replicate 8 2 in
-    let four = fours s _ (start .good .1 .0) in
-    let size : 16 ≡ length (head ++ waiting) = omega (arith, length-paired 4 (s .zones) (s .waits) (four .zones) (four .waits)) in
+    let four = fours settings _ (start .good .1 .0) in
+    let size : 16 ≡ length (head ++ waiting) = omega (arith, length-paired 4 (settings .zones) (settings .waits) (four .zones) (four .waits)) in
     let one = c .before .before .before .before .before .before .before .before .before .before .before .before .before .before .put-head .ensures in
     let other = c .before .before .before .before .before .before .before .before .put-halves .ensures in
     let first = rows-put (take 8 settingWidths) head two waiting out 0 refl one other in

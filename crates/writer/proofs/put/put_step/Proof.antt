@@ -18,9 +18,9 @@ returns : tie.Need-returns
 unfolding total
 returns c =
     let start = c .before .before .before .before .before .before .before .before .before .before .before .before .before in
-    let s = start .args .t3 in
+    let step = start .args .t3 in
     let target = bits-put (fits start .target) (c .before .before .before .before .before .before .before .before .before .before .bits .ensures) in
-    row-put stepWidths (now (start .args .out)) (start .args .at) _ (c .before .before .put-row .ensures) (λ i. target i ∷ drop 1 (stepNumbers s)) (omega arith) (omega (arith, start .pre))
+    row-put stepWidths (now (start .args .out)) (start .args .at) _ (c .before .before .put-row .ensures) (λ i. target i ∷ drop 1 (stepNumbers step)) (omega arith) (omega (arith, start .pre))
 
 pub put-step-spec : {M : Type 1} → statement M
 put-step-spec =

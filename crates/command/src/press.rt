@@ -1,0 +1,151 @@
+// A command on a position: its refusals, 26 to 30, or where it goes.
+ghost use mathlib.Core.Path.{_≡_};
+ghost use mathlib.Core.Bool.{true};
+ghost use Rattle.position.specs.Command.{takesOf, selectsOf, stopPosition, startPosition, pausePosition, backPosition};
+ghost use Rattle.plain.specs.Refusals.{commandMove};
+ghost use Rattle.position.specs.declared.Command.{Command};
+ghost use Rattle.command.specs.Moves.{Takes};
+use crate::shift::minus;
+use crate::shift::plus;
+use measure::Whole;
+use plain::Move;
+use plain::Refusal;
+use position::Command;
+use position::Here;
+use position::Position;
+use setting::Settings;
+
+// Whether a command selects no pattern outside 1 to n.
+fn selects(settings: Settings, pressed: Command) -> bool
+    ensures { λ r. ⌜ r ≡ selectsOf settings pressed ⌝ }
+{
+    if let Command::Select(q) = pressed {
+        return (1 <= q) & (q <= settings.patterns as i32);
+    }
+    true
+}
+
+// Whether a mode takes a command.
+fn takes(pressed: Command, mode: u8) -> bool
+    ensures { λ r. ⌜ r ≡ takesOf pressed mode ⌝ }
+{
+    match pressed {
+        Command::Select(_) => (mode == 0) | (mode == 3),
+        Command::Start => (mode == 0) | (mode == 3),
+        Command::Pause => (mode == 1) | (mode == 2),
+        Command::Reset => (mode == 1) | ((mode == 2) | (mode == 3)),
+        Command::Feed => (mode == 1) | (mode == 2),
+        Command::Back => (mode == 1) | (mode == 2),
+        Command::Plus => (mode == 1) | (mode == 2),
+        Command::Minus => (mode == 1) | (mode == 2),
+    }
+}
+
+// To stopped, at a pattern.
+pub fn stopped(pattern: u8) -> Position
+    ensures { λ r. ⌜ r ≡ stopPosition pattern ⌝ }
+{
+    Position {
+        mode: 0,
+        pattern,
+        step: 1,
+        pass: 1,
+        elapsed: 0,
+        waited: 0,
+        base: 0,
+    }
+}
+
+// Start, from base b.
+fn started(position: Position, b: i16) -> Move
+    ensures { λ r. ⌜ r ≡ Move.To (startPosition position b) ⌝ }
+{
+    Move::To(Position {
+        mode: 1,
+        pattern: position.pattern,
+        step: 1,
+        pass: 1,
+        elapsed: 0,
+        waited: 0,
+        base: b,
+    })
+}
+
+// Start: 28 for a pattern with no step, 29 for start choice 0 with no filtered value.
+fn start(settings: Settings, here: Here, value: Whole, position: Position) -> Move
+    requires { ⌜ takesOf Command.Start (position .mode) ≡ true ⌝ }
+    ensures { λ r. ⌜ r ≡ commandMove settings here value position Command.Start ⌝ }
+{
+    if here.count == 0 {
+        return Move::No(Refusal::NoStep);
+    }
+    if settings.start != 0 {
+        return started(position, settings.initial);
+    }
+    let Whole::Value(v) = value else {
+        return Move::No(Refusal::NoValue);
+    };
+    started(position, v)
+}
+
+// Pause.
+fn paused(mut position: Position) -> Position
+    ensures { λ r. ⌜ r ≡ pausePosition position ⌝ }
+{
+    if position.mode == 1 {
+        position.mode = 2;
+        return position;
+    }
+    position.mode = 1;
+    position
+}
+
+// Back.
+fn back(here: Here, mut position: Position) -> Position
+    ensures { λ r. ⌜ r ≡ backPosition here position ⌝ }
+{
+    let value = ramp::set_value(here, position);
+    position.elapsed = 0;
+    position.waited = 0;
+    if 1 < position.step {
+        position.step = position.step - 1;
+        position.base = value;
+    }
+    position
+}
+
+// What a command does in a mode that takes it.
+fn taken(settings: Settings, here: Here, value: Whole, position: Position, pressed: Command) -> Move
+    requires { ⌜ Takes settings position pressed ⌝ }
+    ensures { λ r. ⌜ r ≡ commandMove settings here value position pressed ⌝ }
+{
+    match pressed {
+        Command::Select(q) => Move::To(stopped(q as u8)),
+        Command::Start => start(settings, here, value, position),
+        Command::Pause => Move::To(paused(position)),
+        Command::Reset => Move::To(stopped(position.pattern)),
+        Command::Feed => Move::To(program::feed(here, position)),
+        Command::Back => Move::To(back(here, position)),
+        Command::Plus => plus(here, position),
+        Command::Minus => minus(here, position),
+    }
+}
+
+// A command: 26, then 27 for a mode not listed for it, then what it does there.
+pub fn command(
+    settings: Settings,
+    here: Here,
+    value: Whole,
+    position: Position,
+    pressed: Command,
+) -> Move
+    ensures { λ r. ⌜ r ≡ commandMove settings here value position pressed ⌝ }
+{
+    if !selects(settings, pressed) {
+        return Move::No(Refusal::NoPattern);
+    }
+    if !takes(pressed, position.mode) {
+        return Move::No(Refusal::WrongMode);
+    }
+    taken(settings, here, value, position, pressed)
+}

@@ -1,0 +1,3 @@
+-- Demand 3 holds.
+pub mod Demand
+pub mod Run

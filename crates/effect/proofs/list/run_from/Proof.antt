@@ -1,0 +1,121 @@
+-- `effect::list::run_from` meets its contract. The loop's invariant: what the bank says is known, the state stands, and what is left of the
+-- list gives what the whole list gives. The measure is the number of events that remain. Assumes nothing.
+use mathlib.Core.Path.{refl, sym, ap, _∙_}
+use mathlib.Core.List.{[], _∷_}
+use native.Mathlib.Omega.{arith}
+use borrow.Author.Tests.{eqb-true}
+use denote.Ref.{now}
+use lib.ListN.{length}
+use Rattle.field.specs.Tab.{tab}
+use Rattle.plain.specs.declared.Answer.{Answer}
+use Rattle.plain.specs.declared.Asked.{Asked}
+use Rattle.plain.specs.Record.{sized}
+use Rattle.plain.specs.Setup.{over, hereIn}
+use Rattle.plain.specs.Event.{after, eventsFrom}
+use Rattle.plain.specs.Listed.{askedAt, askedEvents, eventsIn}
+use Rattle.plain.proofs.Standing.{stands-sized, stands-long}
+use Rattle.effect.specs.Ran.{ranState, afterMoved, afterRan}
+use Rattle.effect.specs.declared.Ran.{Ran}
+use Rattle.effect.proofs.Walk.{Walked, turned, walked-all}
+use borrow.Author.Needs.{needs}
+use Rattle.effect.proofs.list.run_from.Statement.{statement}
+use Rattle.effect.proofs.list.run_from.Tie as tie
+
+abbrev Inv-loop : tie.InvT-loop
+Inv-loop bank store₀ bytes settings moved₀ credits₀ at₀ remaining₀ store moved credits at remaining =
+    Walked (over bank) (length bytes) (askedAt bytes) settings (moved .here)
+    (eventsFrom (over bank) (afterMoved (over bank) moved₀ credits₀ store₀) (askedEvents (tab (askedAt bytes) 5 at₀ remaining₀)))
+    (afterMoved (over bank) moved credits store) at remaining
+
+abbrev μ-loop : tie.MeasureT-loop
+μ-loop bank store₀ bytes settings moved₀ credits₀ at₀ remaining₀ store moved credits at remaining = remaining
+
+read-settings-requires : tie.Need-read-settings-requires Inv-loop μ-loop
+read-settings-requires c κs = search needs
+
+here-at-requires : tie.Need-here-at-requires Inv-loop μ-loop
+here-at-requires c κs = search needs
+
+loop-holds : tie.Need-loop-holds Inv-loop μ-loop
+unfolding hereIn
+loop-holds c =
+    let settings-are = c .before .before .before .before .read-settings .ensures in
+    record {
+      known = record { settings-are = settings-are; here-is = rw settings-are at (c .before .here-at .ensures) };
+      room = omega arith;
+      stands = c .before .before .before .before .before .before .before .before .pre .stands;
+      gives = refl;
+    }
+
+asked-at-requires : tie.Need-asked-at-requires Inv-loop μ-loop
+asked-at-requires c κs = search needs
+
+turn-requires : tie.Need-turn-requires Inv-loop μ-loop
+turn-requires c κs =
+    let h = c .before .before .before .before .loop .inv in
+    let stands = h .stands in
+    record { known = h .known; stands = stands; long = stands-long _ (stands .ok) _ _ (stands .standing) }
+
+add-at : tie.Need-add-at Inv-loop μ-loop
+add-at c =
+    let start = c .before .before .before .before .before .before .before .before .before .before .before .before .before .before .before .before in
+    omega (arith, c .before .before .before .before .before .before .before .loop .inv .room, c .before .before .before .before .before .before .loop-test .taken)
+
+sub-remaining : tie.Need-sub-remaining Inv-loop μ-loop
+sub-remaining c = omega (arith, c .before .before .before .before .before .before .loop-test .taken)
+
+loop-less : tie.Need-loop-less Inv-loop μ-loop
+loop-less c = omega (arith, c .before .before .before .before .before .before .loop-test .taken)
+
+loop-again : tie.Need-loop-again Inv-loop μ-loop
+loop-again c =
+    let setup = over (now (c .before .before .before .before .before .before .before .before .before .before .before .before .before .before .before .before .args .bank)) in
+    let l = c .before .before .before .before .before .before .before .loop in
+    let left = afterMoved setup (l .moved) (l .credits) (l .store) in
+    turned setup _ _ _ _ _ left (l .at) (l .remaining) (l .inv) (c .before .before .before .before .before .before .loop-test .taken) _ _
+    (c .before .before .turn .ensures .0 ∙ ap (λ (asked : Asked). eventsFrom setup left (askedEvents (asked ∷ []))) (c .before .before .before .asked-at .ensures))
+    (c .before .before .turn .ensures .1)
+
+ended-requires : tie.Need-ended-requires Inv-loop μ-loop
+ended-requires c κs = search needs
+
+same-length : tie.Need-same-length Inv-loop μ-loop
+unfolding sized
+same-length c =
+    let stands = c .before .before .loop .inv .stands in
+    let begun = c .before .before .before .before .before .before .before .before .before .before .before .pre .stands in
+    eqb-true _ _ (stands-sized _ (stands .ok) _ _ (stands .standing)) ∙ sym (eqb-true _ _ (stands-sized _ (begun .ok) _ _ (begun .standing)))
+
+returns : tie.Need-returns Inv-loop μ-loop
+unfolding eventsIn
+returns c =
+    let start = c .before .before .before .before .before .before .before .before .before .before .before in
+    let setup = over (now (start .args .bank)) in
+    let made = start .args .made in
+    let l = c .before .before .loop in
+    let known = l .inv .known in
+    let list = tab (askedAt (now (start .args .bytes))) 5 0 _ in
+    ap (λ (ran : Ran). afterRan ran (l .store)) (c .ended .ensures)
+    ∙ rw (known .settings-are, known .here-is)
+    (walked-all setup _ _ _ _ _ (afterMoved setup (l .moved) (l .credits) (l .store)) (l .at) (l .remaining) (l .inv) (c .before .loop-test .left))
+    ∙ ap (λ (answer : Answer). eventsFrom setup (after (ranState made) (now (start .args .store)) answer) (askedEvents list))
+    (sym (start .pre .answer-is))
+
+pub run-from-spec : {M : Type 1} → statement M
+run-from-spec =
+    tie.close
+    (tie.spec
+    Inv-loop
+    μ-loop
+    read-settings-requires
+    here-at-requires
+    loop-holds
+    asked-at-requires
+    turn-requires
+    add-at
+    sub-remaining
+    loop-less
+    loop-again
+    ended-requires
+    same-length
+    returns)

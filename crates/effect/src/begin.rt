@@ -1,0 +1,65 @@
+// What a call begins with: a fresh controller, or none.
+ghost use mathlib.Core.Path.{_≡_};
+ghost use Rattle.plain.specs.Setup.{over};
+ghost use Rattle.plain.specs.Run.{freshRun};
+ghost use Rattle.plain.specs.Event.{makeOutcome};
+ghost use Rattle.effect.specs.Known.{Begins};
+ghost use Rattle.effect.specs.Ran.{afterRan, darkRan as darkOf};
+use crate::Ran;
+use crate::credits::save;
+use measure::Measured;
+use plain::Answer;
+use plain::Run;
+use position::Position;
+use run::dark_run;
+
+// The state with power off, and an answer.
+pub fn dark(answer: Answer) -> Ran
+    ensures { λ r. ⌜ r ≡ darkOf answer ⌝ }
+{
+    Ran {
+        power: false,
+        run: dark_run(),
+        credits: [0; 99],
+        answer,
+    }
+}
+
+// The fresh run.
+fn fresh_run() -> Run
+    ensures { λ r. ⌜ r ≡ freshRun ⌝ }
+{
+    Run {
+        position: Position {
+            mode: 0,
+            pattern: 1,
+            step: 1,
+            pass: 1,
+            elapsed: 0,
+            waited: 0,
+            base: 0,
+        },
+        unsaved: 0,
+        measured: Measured::NoReading,
+    }
+}
+
+// The fresh controller, which is saved.
+pub fn begin(bank: &[u8], store: &mut [u8]) -> Ran
+    requires { ⌜ Begins (over (now bank)) (now store) ⌝ }
+    ensures { λ r. ⌜ afterRan r (now (store .exit)) ≡ makeOutcome (over (now (bank .entry))) (now (store .entry)) ⌝ }
+{
+    let run = fresh_run();
+    let position = run.position;
+    let credits = [0u32; 99];
+    save(store, position, credits);
+    let settings = setting::read_settings(bank);
+    let here = program::here_at(bank, settings, position.pattern, position.step);
+    let values = program::shown(settings, here, position);
+    Ran {
+        power: true,
+        run,
+        credits,
+        answer: Answer::Accepted(values),
+    }
+}

@@ -1,0 +1,83 @@
+// What an event does to a run; making; and a list of events run from making on. Each call checks the bank.
+ghost use mathlib.Core.Path.{_≡_};
+ghost use Rattle.plain.specs.Setup.{over};
+ghost use Rattle.plain.specs.Event.{makeOutcome, final};
+ghost use Rattle.plain.specs.Listed.{eventsIn};
+ghost use Rattle.effect.specs.Ran.{afterRan};
+use crate::begin::begin;
+use crate::begin::dark;
+pub use crate::events::event;
+use checkpoint::SIZE;
+use plain::Answer;
+use plain::Credit;
+use plain::Refusal;
+use plain::Run;
+use position::Here;
+use setting::Checked;
+
+mod answers;
+mod begin;
+mod credits;
+mod events;
+mod list;
+mod press;
+mod restore;
+mod tick;
+
+// An answer before what it shows is looked up.
+enum Told {
+    Accepted,
+    Refused(Refusal),
+}
+
+// What an event does, without what it shows.
+struct Done {
+    power: bool,
+    run: Run,
+    credit: Credit,
+    saves: bool,
+    told: Told,
+}
+
+// What goes from one event of a list to the next; `here` is what is said at the run's position.
+struct Moved {
+    power: bool,
+    run: Run,
+    here: Here,
+    told: Told,
+}
+
+// What a call leaves beside the record.
+pub struct Ran {
+    pub power: bool,
+    pub run: Run,
+    pub credits: [u32; 99],
+    pub answer: Answer,
+}
+
+// A controller is made: it is fresh, and saves.
+pub fn make(bank: &[u8], store: &mut [u8]) -> Ran
+    ensures { λ r. ⌜ afterRan r (now (store .exit)) ≡ makeOutcome (over (now (bank .entry))) (now (store .entry)) ⌝ }
+{
+    let found = bank::check(bank);
+    let Checked::Accepted = found else {
+        return dark(Answer::Bank(found));
+    };
+    if store.len() != SIZE {
+        return dark(Answer::Refused(Refusal::Buffer));
+    }
+    begin(bank, store)
+}
+
+// A controller is made, and a list of events, five bytes each, is run by it: what the last event leaves, or making if it is refused or there is
+// no event. The bank is checked once.
+pub fn run(bank: &[u8], store: &mut [u8], bytes: &[u8]) -> Ran
+    ensures { λ r. ⌜ afterRan r (now (store .exit)) ≡ final (over (now (bank .entry))) (now (store .entry)) (eventsIn (now (bytes .entry))) ⌝ }
+{
+    let made = make(bank, store);
+    let first = made.answer;
+    let Answer::Accepted(_) = first else {
+        return made;
+    };
+    list::run_from(bank, store, made, bytes)
+}

@@ -1,4 +1,0 @@
-pub mod Facts
-pub mod Cases
-pub mod Stays
-pub mod Laws

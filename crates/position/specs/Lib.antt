@@ -1,0 +1,7 @@
+-- A position, in the order of the document: what a bank says there, set value, tick, next, signals; commands; return; readable. And how the
+-- code holds a temperature.
+pub mod Tests
+pub mod Program
+pub mod Command
+pub mod Return
+pub mod Raised

@@ -1,6 +1,0 @@
-pub mod Tests
-pub mod Raised
-pub mod Numbered
-pub mod SetValue
-pub mod Cases
-pub mod Laws

@@ -1,0 +1,34 @@
+-- `ramp::value::set_value` meets its contract. Assumes nothing.
+use mathlib.Core.Path.{_≡_, refl, _∙_}
+use mathlib.Core.Bool.{Bool, true, false, _||_}
+use mir.Syntax.{w16}
+use mir.Val.{SFits}
+use mir.Facts.{toZ-ofZ}
+use lib.Dec.{eqb}
+use borrow.Author.Needs.{needs}
+use Rattle.position.specs.Program.{active, setValueOf}
+use Rattle.position.proofs.Tests.{either-or}
+use Rattle.ramp.proofs.value.set_value.Statement.{statement}
+use Rattle.ramp.proofs.value.set_value.Tie as tie
+
+base : (c : tie.Start) → SFits w16 (c .args .position .base)
+base c = search needs
+
+-- the code's test is the definition's
+by-mode : (c : tie.Start) (t : Bool) → (eqb (c .args .position .mode) 1 || eqb (c .args .position .mode) 2) ≡ t → active (c .args .position) ≡ t
+unfolding active
+by-mode c t h = either-or _ _ ∙ h
+
+returns : tie.Need-returns
+unfolding setValueOf
+returns c =
+    let start = c .before .before .before .before .before in
+    rw (by-mode start true (c .before .before .if1 .taken))
+    (toZ-ofZ (record { sfits = c .ramp .ok }) ∙ c .ramp .ensures ∙ rw (toZ-ofZ (base start)) refl)
+
+returns-2 : tie.Need-returns-2
+unfolding setValueOf
+returns-2 c = rw (by-mode (c .before .before .before) false (c .if1 .left)) refl
+
+pub set-value-spec : {M : Type 1} → statement M
+set-value-spec = tie.close (tie.spec (λ c κs. search needs) returns returns-2)

@@ -1,0 +1,2 @@
+-- What the functions of `ramp` ask.
+pub mod Asks

@@ -1,2 +1,0 @@
--- A result as one number.
-pub mod Result
