@@ -19,7 +19,7 @@ pub struct Numbers {
 
 // A number with no values.
 fn alone(number: u8) -> Numbers
-    ensures { λ r. ⌜ r ≡ record { number = number; first = 0; second = 0; count = 1 } ⌝ }
+    ensures { λ result. ⌜ result ≡ record { number = number; first = 0; second = 0; count = 1 } ⌝ }
 {
     Numbers {
         number,
@@ -31,7 +31,7 @@ fn alone(number: u8) -> Numbers
 
 // What the check of a bank finds.
 pub fn of_checked(found: Checked) -> Numbers
-    ensures { λ r. ⌜ r ≡ numberAndValues (bankNumbers found) ⌝ }
+    ensures { λ result. ⌜ result ≡ numberAndValues (bankNumbers found) ⌝ }
 {
     match found {
         Checked::Accepted => alone(0),
@@ -59,7 +59,7 @@ pub fn of_checked(found: Checked) -> Numbers
 
 // The number of a refusal.
 fn of_refusal(refusal: Refusal) -> u8
-    ensures { λ r. ⌜ r ≡ numberOf refusal ⌝ }
+    ensures { λ result. ⌜ result ≡ numberOf refusal ⌝ }
 {
     match refusal {
         Refusal::Unsound => 21,
@@ -78,7 +78,7 @@ fn of_refusal(refusal: Refusal) -> u8
 
 // The number of an answer.
 pub fn number(answer: Answer) -> u8
-    ensures { λ r. ⌜ pos r ≡ getD (numbersOf answer) 0 (pos 0) ⌝ }
+    ensures { λ result. ⌜ pos result ≡ getD (numbersOf answer) 0 (pos 0) ⌝ }
 {
     match answer {
         Answer::Accepted(_) => 0,

@@ -13,8 +13,8 @@ use mir.Val.{boolByte}
 pub the-nan : (x : Float) → isNan x ≡ true → x ≡ nan
 unfolding isNan
 the-nan nan h = refl
-the-nan (inf s) h = absurd (false≢true h)
-the-nan (fin s m e) h = absurd (false≢true h)
+the-nan (inf sign) h = absurd (false≢true h)
+the-nan (fin sign m exponent) h = absurd (false≢true h)
 
 -- only a NaN differs from itself
 pub nan-differs : (x : Float) → ne x x ≡ true → x ≡ nan
@@ -23,8 +23,8 @@ nan-differs x h = differs-from-itself x (subst T (sym h) tt)
 pub no-nan : (x : Float) → ne x x ≡ false → T (not (isNan x))
 unfolding ne isNan
 no-nan nan h = absurd (false≢true (sym h))
-no-nan (inf s) h = tt
-no-nan (fin s m e) h = tt
+no-nan (inf sign) h = tt
+no-nan (fin sign m exponent) h = tt
 
 pub holds-not : (t : Bool) → t ≡ false → T (not t)
 holds-not true h = absurd (false≢true (sym h))

@@ -14,7 +14,7 @@ use position::Position;
 
 // The position, behind the byte of power.
 fn position_in(bytes: &[u8]) -> Position
-    ensures { λ r. ⌜ r ≡ positionIn (drop 1 (now (bytes .entry))) ⌝ }
+    ensures { λ result. ⌜ result ≡ positionIn (drop 1 (now (bytes .entry))) ⌝ }
 {
     if bytes.len() < 1 {
         return checkpoint::read_position(bytes);
@@ -24,7 +24,7 @@ fn position_in(bytes: &[u8]) -> Position
 
 // The run. Bytes past the end read as 0.
 pub fn run_in(bytes: &[u8]) -> Run
-    ensures { λ r. ⌜ r ≡ stateIn (now (bytes .entry)) .run ⌝ }
+    ensures { λ result. ⌜ result ≡ stateIn (now (bytes .entry)) .run ⌝ }
 {
     Run {
         position: position_in(bytes),
@@ -35,7 +35,7 @@ pub fn run_in(bytes: &[u8]) -> Run
 
 // Whether bytes are a state: size, power, kind, y.
 pub fn is_state(bytes: &[u8]) -> bool
-    ensures { λ r. ⌜ r ≡ isState (now (bytes .entry)) ⌝ }
+    ensures { λ result. ⌜ result ≡ isState (now (bytes .entry)) ⌝ }
 {
     if bytes.len() != SIZE {
         return false;

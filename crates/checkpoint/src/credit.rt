@@ -11,7 +11,7 @@ use field::join4;
 
 // How many of the credits have all their bytes in a record of a size.
 fn whole_credits(size: usize) -> usize
-    ensures { λ r. ⌜ r ≡ min 99 ((size - 15) / 4) ⌝ }
+    ensures { λ result. ⌜ result ≡ min 99 ((size - 15) / 4) ⌝ }
 {
     if SIZE <= size {
         return 99;
@@ -24,7 +24,7 @@ fn whole_credits(size: usize) -> usize
 
 // The credits of a record. Bytes past the end read as 0.
 pub fn credits(store: &[u8]) -> [u32; 99]
-    ensures { λ r. ⌜ r ≡ creditsIn (now (store .entry)) ⌝ }
+    ensures { λ result. ⌜ result ≡ creditsIn (now (store .entry)) ⌝ }
 {
     let whole = whole_credits(store.len());
     let mut cs = [0u32; 99];

@@ -17,7 +17,7 @@ use setting::Settings;
 
 // Whether a command selects no pattern outside 1 to n.
 fn selects(settings: Settings, pressed: Command) -> bool
-    ensures { λ r. ⌜ r ≡ selectsOf settings pressed ⌝ }
+    ensures { λ result. ⌜ result ≡ selectsOf settings pressed ⌝ }
 {
     if let Command::Select(q) = pressed {
         return (1 <= q) & (q <= settings.patterns as i32);
@@ -27,7 +27,7 @@ fn selects(settings: Settings, pressed: Command) -> bool
 
 // Whether a mode takes a command.
 fn takes(pressed: Command, mode: u8) -> bool
-    ensures { λ r. ⌜ r ≡ takesOf pressed mode ⌝ }
+    ensures { λ result. ⌜ result ≡ takesOf pressed mode ⌝ }
 {
     match pressed {
         Command::Select(_) => (mode == 0) | (mode == 3),
@@ -43,7 +43,7 @@ fn takes(pressed: Command, mode: u8) -> bool
 
 // To stopped, at a pattern.
 pub fn stopped(pattern: u8) -> Position
-    ensures { λ r. ⌜ r ≡ stopPosition pattern ⌝ }
+    ensures { λ result. ⌜ result ≡ stopPosition pattern ⌝ }
 {
     Position {
         mode: 0,
@@ -58,7 +58,7 @@ pub fn stopped(pattern: u8) -> Position
 
 // Start, from base b.
 fn started(position: Position, b: i16) -> Move
-    ensures { λ r. ⌜ r ≡ Move.To (startPosition position b) ⌝ }
+    ensures { λ result. ⌜ result ≡ Move.To (startPosition position b) ⌝ }
 {
     Move::To(Position {
         mode: 1,
@@ -74,7 +74,7 @@ fn started(position: Position, b: i16) -> Move
 // Start: 28 for a pattern with no step, 29 for start choice 0 with no filtered value.
 fn start(settings: Settings, here: Here, value: Whole, position: Position) -> Move
     requires { ⌜ takesOf Command.Start (position .mode) ≡ true ⌝ }
-    ensures { λ r. ⌜ r ≡ commandMove settings here value position Command.Start ⌝ }
+    ensures { λ result. ⌜ result ≡ commandMove settings here value position Command.Start ⌝ }
 {
     if here.count == 0 {
         return Move::No(Refusal::NoStep);
@@ -90,7 +90,7 @@ fn start(settings: Settings, here: Here, value: Whole, position: Position) -> Mo
 
 // Pause.
 fn paused(mut position: Position) -> Position
-    ensures { λ r. ⌜ r ≡ pausePosition position ⌝ }
+    ensures { λ result. ⌜ result ≡ pausePosition position ⌝ }
 {
     if position.mode == 1 {
         position.mode = 2;
@@ -102,7 +102,7 @@ fn paused(mut position: Position) -> Position
 
 // Back.
 fn back(here: Here, mut position: Position) -> Position
-    ensures { λ r. ⌜ r ≡ backPosition here position ⌝ }
+    ensures { λ result. ⌜ result ≡ backPosition here position ⌝ }
 {
     let value = ramp::set_value(here, position);
     position.elapsed = 0;
@@ -117,7 +117,7 @@ fn back(here: Here, mut position: Position) -> Position
 // What a command does in a mode that takes it.
 fn taken(settings: Settings, here: Here, value: Whole, position: Position, pressed: Command) -> Move
     requires { ⌜ Takes settings position pressed ⌝ }
-    ensures { λ r. ⌜ r ≡ commandMove settings here value position pressed ⌝ }
+    ensures { λ result. ⌜ result ≡ commandMove settings here value position pressed ⌝ }
 {
     match pressed {
         Command::Select(q) => Move::To(stopped(q as u8)),
@@ -139,7 +139,7 @@ pub fn command(
     position: Position,
     pressed: Command,
 ) -> Move
-    ensures { λ r. ⌜ r ≡ commandMove settings here value position pressed ⌝ }
+    ensures { λ result. ⌜ result ≡ commandMove settings here value position pressed ⌝ }
 {
     if !selects(settings, pressed) {
         return Move::No(Refusal::NoPattern);

@@ -11,7 +11,7 @@ use setting::is_temperature;
 
 // Whether a run goes on after an outage, by the width.
 fn goes_on(settings: Settings, here: Here, value: Whole, position: Position) -> bool
-    ensures { λ r. ⌜ r ≡ goesOn settings here value position ⌝ }
+    ensures { λ result. ⌜ result ≡ goesOn settings here value position ⌝ }
 {
     let restored = ramp::set_value(here, position);
     (settings.width == 0) | ramp::near(settings.width, restored, value)
@@ -19,7 +19,7 @@ fn goes_on(settings: Settings, here: Here, value: Whole, position: Position) -> 
 
 // The outage choices.
 pub fn returned(settings: Settings, here: Here, value: Whole, mut position: Position) -> Position
-    ensures { λ r. ⌜ r ≡ returnPosition settings here value position ⌝ }
+    ensures { λ result. ⌜ result ≡ returnPosition settings here value position ⌝ }
 {
     if !((position.mode == 1) | (position.mode == 2)) {
         return position;
@@ -37,14 +37,14 @@ pub fn returned(settings: Settings, here: Here, value: Whole, mut position: Posi
 
 // Whether e = w = b = 0.
 fn clear(position: Position) -> bool
-    ensures { λ r. ⌜ r ≡ clearedOf position ⌝ }
+    ensures { λ result. ⌜ result ≡ clearedOf position ⌝ }
 {
     (position.elapsed == 0) & ((position.waited == 0) & (position.base == 0))
 }
 
 // The longest elapsed time of a step.
 fn longest(here: Here) -> u32
-    ensures { λ r. ⌜ r ≡ cond (here .endless) 359999 (here .time) ⌝ }
+    ensures { λ result. ⌜ result ≡ cond (here .endless) 359999 (here .time) ⌝ }
 {
     if here.endless {
         return 359999;
@@ -54,7 +54,7 @@ fn longest(here: Here) -> u32
 
 // Whether e and w are those of a step in modes 1 and 2.
 fn times_right(here: Here, position: Position) -> bool
-    ensures { λ r. ⌜ r ≡ timesRight here position ⌝ }
+    ensures { λ result. ⌜ result ≡ timesRight here position ⌝ }
 {
     let in_time = (position.waited == 0) & (position.elapsed <= longest(here));
     let in_wait = (0 < position.waited) & (position.waited < here.wait);
@@ -63,7 +63,7 @@ fn times_right(here: Here, position: Position) -> bool
 
 // Whether a position is readable.
 pub fn readable(settings: Settings, here: Here, position: Position) -> bool
-    ensures { λ r. ⌜ r ≡ readableOf settings here position ⌝ }
+    ensures { λ result. ⌜ result ≡ readableOf settings here position ⌝ }
 {
     let mode = position.mode <= 3;
     let pattern = (1 <= position.pattern) & (position.pattern <= settings.patterns);

@@ -8,7 +8,7 @@ use position::Position;
 
 // Plus.
 pub fn plus(here: Here, mut position: Position) -> Move
-    ensures { λ r. ⌜ r ≡ plusMove here position ⌝ }
+    ensures { λ result. ⌜ result ≡ plusMove here position ⌝ }
 {
     if here.endless {
         return Move::No(Refusal::Stuck);
@@ -29,7 +29,7 @@ pub fn plus(here: Here, mut position: Position) -> Move
 
 // Minus.
 pub fn minus(here: Here, mut position: Position) -> Move
-    ensures { λ r. ⌜ r ≡ minusMove here position ⌝ }
+    ensures { λ result. ⌜ result ≡ minusMove here position ⌝ }
 {
     if here.endless {
         return Move::No(Refusal::Stuck);

@@ -8,7 +8,7 @@ ghost use Rattle.decimal.specs.Text.{decimal, text, put, putText, putOf}
 // The decimal digits of a number, at most so many of them. Gives the place where they end.
 fn put_digits(out: &mut [u8], at: usize, most: usize, value: u64) -> usize
     requires { ⌜ at + most ≤ length (now out) ⌝ }
-    ensures { λ r. ⌜ put (now (out .exit)) r ≡ putText (now (out .entry)) at (decimal most value) ⌝ }
+    ensures { λ result. ⌜ put (now (out .exit)) result ≡ putText (now (out .entry)) at (decimal most value) ⌝ }
 {
     if most == 0 {
         return at;
@@ -25,7 +25,7 @@ fn put_digits(out: &mut [u8], at: usize, most: usize, value: u64) -> usize
 // A number, with a minus before one that is below 0.
 fn put_number(out: &mut [u8], at: usize, x: i64) -> usize
     requires { ⌜ at + 20 ≤ length (now out) ⌝ }
-    ensures { λ r. ⌜ put (now (out .exit)) r ≡ putText (now (out .entry)) at (text x) ⌝ }
+    ensures { λ result. ⌜ put (now (out .exit)) result ≡ putText (now (out .entry)) at (text x) ⌝ }
 {
     if x >= 0 {
         return put_digits(out, at, 19, x as u64);
@@ -36,7 +36,7 @@ fn put_number(out: &mut [u8], at: usize, x: i64) -> usize
 
 // A line of numbers, if there is room for it: one space between them, a newline at the end.
 pub fn put_line(out: &mut [u8], at: usize, numbers: &[i64]) -> usize
-    ensures { λ r. ⌜ put (now (out .exit)) r ≡ putOf (now (out .entry)) at (now (numbers .entry)) ⌝ }
+    ensures { λ result. ⌜ put (now (out .exit)) result ≡ putOf (now (out .entry)) at (now (numbers .entry)) ⌝ }
 {
     if out.len() < at {
         return at;
@@ -57,7 +57,7 @@ pub fn put_line(out: &mut [u8], at: usize, numbers: &[i64]) -> usize
 
 // What stands behind a number, where more follow, and behind the last.
 fn separator(more: bool) -> u8
-    ensures { λ r. ⌜ r ≡ cond more 32 10 ⌝ }
+    ensures { λ result. ⌜ result ≡ cond more 32 10 ⌝ }
 {
     if more { b' ' } else { b'\n' }
 }

@@ -16,7 +16,7 @@ use setting::Settings;
 
 // A refusal leaves all.
 pub fn refused(power: bool, run: Run, refusal: Refusal) -> Done
-    ensures { λ r. ⌜ r ≡ refusedDone power run refusal ⌝ }
+    ensures { λ result. ⌜ result ≡ refusedDone power run refusal ⌝ }
 {
     Done {
         power,
@@ -29,7 +29,7 @@ pub fn refused(power: bool, run: Run, refusal: Refusal) -> Done
 
 // Accepted with power on, with the run that is left.
 pub fn accepted(credit: Credit, saves: bool, mut run: Run) -> Done
-    ensures { λ r. ⌜ r ≡ acceptedDone credit saves run ⌝ }
+    ensures { λ result. ⌜ result ≡ acceptedDone credit saves run ⌝ }
 {
     if saves {
         run.unsaved = 0;
@@ -59,7 +59,7 @@ pub fn here_after(
     position: Position,
 ) -> Here
     requires { ⌜ Known (over (now bank)) before settings here ⌝ }
-    ensures { λ r. ⌜ r ≡ hereIn (over (now (bank .entry))) position ⌝ }
+    ensures { λ result. ⌜ result ≡ hereIn (over (now (bank .entry))) position ⌝ }
 {
     if before.pattern != position.pattern {
         return program::here_at(bank, settings, position.pattern, position.step);
@@ -72,7 +72,7 @@ pub fn here_after(
 
 // The answer: a refusal, or what is shown of a position.
 pub fn answered(settings: Settings, here: Here, position: Position, told: Told) -> Answer
-    ensures { λ r. ⌜ r ≡ answerBy settings here position told ⌝ }
+    ensures { λ result. ⌜ result ≡ answerBy settings here position told ⌝ }
 {
     match told {
         Told::Accepted => Answer::Accepted(program::shown(settings, here, position)),
@@ -89,7 +89,7 @@ pub fn effect_of(
     done: Done,
 ) -> Effect
     requires { ⌜ Known (over (now bank)) before settings here ⌝ }
-    ensures { λ r. ⌜ r ≡ effectOf (over (now (bank .entry))) done ⌝ }
+    ensures { λ result. ⌜ result ≡ effectOf (over (now (bank .entry))) done ⌝ }
 {
     let run = done.run;
     let position = run.position;

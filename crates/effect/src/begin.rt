@@ -15,7 +15,7 @@ use run::dark_run;
 
 // The state with power off, and an answer.
 pub fn dark(answer: Answer) -> Ran
-    ensures { λ r. ⌜ r ≡ darkOf answer ⌝ }
+    ensures { λ result. ⌜ result ≡ darkOf answer ⌝ }
 {
     Ran {
         power: false,
@@ -27,7 +27,7 @@ pub fn dark(answer: Answer) -> Ran
 
 // The fresh run.
 fn fresh_run() -> Run
-    ensures { λ r. ⌜ r ≡ freshRun ⌝ }
+    ensures { λ result. ⌜ result ≡ freshRun ⌝ }
 {
     Run {
         position: Position {
@@ -47,7 +47,7 @@ fn fresh_run() -> Run
 // The fresh controller, which is saved.
 pub fn begin(bank: &[u8], store: &mut [u8]) -> Ran
     requires { ⌜ Begins (over (now bank)) (now store) ⌝ }
-    ensures { λ r. ⌜ afterRan r (now (store .exit)) ≡ makeOutcome (over (now (bank .entry))) (now (store .entry)) ⌝ }
+    ensures { λ result. ⌜ afterRan result (now (store .exit)) ≡ makeOutcome (over (now (bank .entry))) (now (store .entry)) ⌝ }
 {
     let run = fresh_run();
     let position = run.position;

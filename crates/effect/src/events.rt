@@ -27,7 +27,7 @@ use setting::Settings;
 
 // A cut turns power off and loses all state but the record: 23.
 fn cut(power: bool, run: Run) -> Done
-    ensures { λ r. ⌜ DoesCut power run r ⌝ }
+    ensures { λ result. ⌜ DoesCut power run result ⌝ }
 {
     if !power {
         return refused(power, run, Refusal::PowerOff);
@@ -52,7 +52,7 @@ pub fn known(
     event: Event,
 ) -> Done
     requires { ⌜ Ready (over (now bank)) (now store) power run settings here ⌝ }
-    ensures { λ r. ⌜ effectOf (over (now (bank .entry))) r ≡ knownEffect (over (now (bank .entry))) (now (store .entry)) power run event ⌝ }
+    ensures { λ result. ⌜ effectOf (over (now (bank .entry))) result ≡ knownEffect (over (now (bank .entry))) (now (store .entry)) power run event ⌝ }
 {
     match event {
         Event::Tick(reading) => tick(settings, here, power, run, reading),
@@ -64,7 +64,7 @@ pub fn known(
 
 // Whether a run is sound.
 fn sound(settings: Settings, here: Here, run: Run) -> bool
-    ensures { λ r. ⌜ r ≡ soundBy settings here run ⌝ }
+    ensures { λ result. ⌜ result ≡ soundBy settings here run ⌝ }
 {
     let value = run.measured;
     is_readable(settings, here, run) & ((run.unsaved < 60) & measure::sound(value))
@@ -72,7 +72,7 @@ fn sound(settings: Settings, here: Here, run: Run) -> bool
 
 // A refusal before all others leaves all.
 fn unchanged(power: bool, run: Run, answer: Answer) -> Effect
-    ensures { λ r. ⌜ r ≡ unchangedOf power run answer ⌝ }
+    ensures { λ result. ⌜ result ≡ unchangedOf power run answer ⌝ }
 {
     Effect {
         power,
@@ -85,7 +85,7 @@ fn unchanged(power: bool, run: Run, answer: Answer) -> Effect
 
 // An event: 11 to 14, 21, 22, and the rest.
 pub fn event(bank: &[u8], store: &[u8], power: bool, run: Run, event: Event) -> Effect
-    ensures { λ r. ⌜ r ≡ eventEffect (over (now (bank .entry))) (now (store .entry)) power run event ⌝ }
+    ensures { λ result. ⌜ result ≡ eventEffect (over (now (bank .entry))) (now (store .entry)) power run event ⌝ }
 {
     let found = bank::check(bank);
     let Checked::Accepted = found else {

@@ -57,7 +57,7 @@ pub struct Ran {
 
 // A controller is made: it is fresh, and saves.
 pub fn make(bank: &[u8], store: &mut [u8]) -> Ran
-    ensures { λ r. ⌜ afterRan r (now (store .exit)) ≡ makeOutcome (over (now (bank .entry))) (now (store .entry)) ⌝ }
+    ensures { λ result. ⌜ afterRan result (now (store .exit)) ≡ makeOutcome (over (now (bank .entry))) (now (store .entry)) ⌝ }
 {
     let found = bank::check(bank);
     let Checked::Accepted = found else {
@@ -72,7 +72,7 @@ pub fn make(bank: &[u8], store: &mut [u8]) -> Ran
 // A controller is made, and a list of events, five bytes each, is run by it: what the last event leaves, or making if it is refused or there is
 // no event. The bank is checked once.
 pub fn run(bank: &[u8], store: &mut [u8], bytes: &[u8]) -> Ran
-    ensures { λ r. ⌜ afterRan r (now (store .exit)) ≡ final (over (now (bank .entry))) (now (store .entry)) (eventsIn (now (bytes .entry))) ⌝ }
+    ensures { λ result. ⌜ afterRan result (now (store .exit)) ≡ final (over (now (bank .entry))) (now (store .entry)) (eventsIn (now (bytes .entry))) ⌝ }
 {
     let made = make(bank, store);
     let first = made.answer;

@@ -28,8 +28,8 @@ fn turn(
     asked: Asked,
 ) -> Moved
     requires { ⌜ Within (over (now bank)) settings (moved .here) (stateFrom moved (now credits)) (now store) ⌝ }
-    ensures { λ r. ⌜ afterMoved (over (now (bank .entry))) r (now (credits .exit)) (now (store .exit)) ≡ turnOf (over (now (bank .entry))) moved (now (credits .entry)) (now (store .entry)) asked ⌝ }
-    ensures { λ r. ⌜ r .here ≡ hereIn (over (now (bank .entry))) (r .run .position) ⌝ }
+    ensures { λ o. ⌜ afterMoved (over (now (bank .entry))) o (now (credits .exit)) (now (store .exit)) ≡ turnOf (over (now (bank .entry))) moved (now (credits .entry)) (now (store .entry)) asked ⌝ }
+    ensures { λ result. ⌜ result .here ≡ hereIn (over (now (bank .entry))) (result .run .position) ⌝ }
 {
     let Asked::Of(event) = asked else {
         return moved;
@@ -57,7 +57,7 @@ fn turn(
 
 // What the last event leaves.
 fn ended(settings: Settings, moved: Moved, credits: [u32; 99]) -> Ran
-    ensures { λ r. ⌜ r ≡ ranBy settings moved credits ⌝ }
+    ensures { λ result. ⌜ result ≡ ranBy settings moved credits ⌝ }
 {
     let run = moved.run;
     let position = run.position;
@@ -74,7 +74,7 @@ fn ended(settings: Settings, moved: Moved, credits: [u32; 99]) -> Ran
 // The events, from a state that stands on. The settings are read once.
 pub fn run_from(bank: &[u8], store: &mut [u8], made: Ran, bytes: &[u8]) -> Ran
     requires { ⌜ Made (over (now bank)) made (now store) ⌝ }
-    ensures { λ r. ⌜ afterRan r (now (store .exit)) ≡ eventsFrom (over (now (bank .entry))) (afterRan made (now (store .entry))) (eventsIn (now (bytes .entry))) ⌝ }
+    ensures { λ result. ⌜ afterRan result (now (store .exit)) ≡ eventsFrom (over (now (bank .entry))) (afterRan made (now (store .entry))) (eventsIn (now (bytes .entry))) ⌝ }
 {
     let settings = setting::read_settings(bank);
     let run = made.run;

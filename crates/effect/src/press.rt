@@ -16,7 +16,7 @@ use setting::Settings;
 
 // A start clears the credits.
 fn credit_of(pressed: Command) -> Credit
-    ensures { λ r. ⌜ r ≡ commandCredit pressed ⌝ }
+    ensures { λ result. ⌜ result ≡ commandCredit pressed ⌝ }
 {
     if let Command::Start = pressed {
         return Credit::Clear;
@@ -26,7 +26,7 @@ fn credit_of(pressed: Command) -> Credit
 
 // A command: 23, 26 to 30. An accepted command saves.
 pub fn press(settings: Settings, here: Here, power: bool, mut run: Run, pressed: Command) -> Done
-    ensures { λ r. ⌜ DoesPlain settings here power run (pressOf pressed) r ⌝ }
+    ensures { λ result. ⌜ DoesPlain settings here power run (pressOf pressed) result ⌝ }
 {
     if !power {
         return refused(power, run, Refusal::PowerOff);

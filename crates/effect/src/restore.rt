@@ -19,7 +19,7 @@ use setting::Settings;
 
 // What a record brings back, before the choices.
 fn brought_back(store: &[u8]) -> Run
-    ensures { λ r. ⌜ r ≡ broughtBack (now (store .entry)) ⌝ }
+    ensures { λ result. ⌜ result ≡ broughtBack (now (store .entry)) ⌝ }
 {
     Run {
         position: checkpoint::read_position(store),
@@ -30,7 +30,7 @@ fn brought_back(store: &[u8]) -> Run
 
 // Whether each part that a record has of a run is readable.
 pub fn is_readable(settings: Settings, here: Here, run: Run) -> bool
-    ensures { λ r. ⌜ r ≡ readableBy settings here run ⌝ }
+    ensures { λ result. ⌜ result ≡ readableBy settings here run ⌝ }
 {
     let position = run.position;
     command::readable(settings, here, position)
@@ -38,7 +38,7 @@ pub fn is_readable(settings: Settings, here: Here, run: Run) -> bool
 
 // The reading becomes a first reading, u is 0, the choices apply.
 fn returned(settings: Settings, here: Here, reading: Reading, run: Run) -> Run
-    ensures { λ r. ⌜ r ≡ returnBy settings here reading run ⌝ }
+    ensures { λ result. ⌜ result ≡ returnBy settings here reading run ⌝ }
 {
     let measured = measure::first(reading);
     let position = run.position;
@@ -59,7 +59,7 @@ pub fn restore(
     reading: Reading,
 ) -> Done
     requires { ⌜ Returns (over (now bank)) (now store) power run settings ⌝ }
-    ensures { λ r. ⌜ effectOf (over (now (bank .entry))) r ≡ knownEffect (over (now (bank .entry))) (now (store .entry)) power run (Event.Return reading) ⌝ }
+    ensures { λ result. ⌜ effectOf (over (now (bank .entry))) result ≡ knownEffect (over (now (bank .entry))) (now (store .entry)) power run (Event.Return reading) ⌝ }
 {
     if power {
         return refused(power, run, Refusal::PowerOn);

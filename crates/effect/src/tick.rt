@@ -18,7 +18,7 @@ use setting::Settings;
 
 // The measured value is updated.
 fn measured(settings: Settings, reading: Reading, run: Run) -> Run
-    ensures { λ r. ⌜ r ≡ measuring settings reading run ⌝ }
+    ensures { λ result. ⌜ result ≡ measuring settings reading run ⌝ }
 {
     let before = run.measured;
     let position = run.position;
@@ -32,7 +32,7 @@ fn measured(settings: Settings, reading: Reading, run: Run) -> Run
 // u gains 1.
 fn counted(mut run: Run) -> Run
     requires { ⌜ run .unsaved < 255 ⌝ }
-    ensures { λ r. ⌜ r ≡ counting run ⌝ }
+    ensures { λ result. ⌜ result ≡ counting run ⌝ }
 {
     run.unsaved = run.unsaved + 1;
     run
@@ -40,7 +40,7 @@ fn counted(mut run: Run) -> Run
 
 // In mode 1 a second of the step passes.
 fn stepped(here: Here, mut run: Run) -> Run
-    ensures { λ r. ⌜ r ≡ stepping here run ⌝ }
+    ensures { λ result. ⌜ result ≡ stepping here run ⌝ }
 {
     let value = run.measured;
     let before = run.position;
@@ -51,14 +51,14 @@ fn stepped(here: Here, mut run: Run) -> Run
 
 fn ticked(settings: Settings, here: Here, reading: Reading, run: Run) -> Run
     requires { ⌜ run .unsaved < 255 ⌝ }
-    ensures { λ r. ⌜ r ≡ tickBy settings here reading run ⌝ }
+    ensures { λ result. ⌜ result ≡ tickBy settings here reading run ⌝ }
 {
     stepped(here, counted(measured(settings, reading, run)))
 }
 
 // In mode 1 the tick is credited to its step.
 fn credit_of(position: Position) -> Credit
-    ensures { λ r. ⌜ r ≡ tickCredit position ⌝ }
+    ensures { λ result. ⌜ result ≡ tickCredit position ⌝ }
 {
     if position.mode == 1 {
         return Credit::Cook(position.step);
@@ -68,7 +68,7 @@ fn credit_of(position: Position) -> Credit
 
 // A tick saves if it changes mode, step or pass, or makes u 60.
 fn saves(before: Run, after: Run) -> bool
-    ensures { λ r. ⌜ r ≡ tickSaves before after ⌝ }
+    ensures { λ result. ⌜ result ≡ tickSaves before after ⌝ }
 {
     let from = before.position;
     let to = after.position;
@@ -79,7 +79,7 @@ fn saves(before: Run, after: Run) -> bool
 // A tick: 23, 25.
 pub fn tick(settings: Settings, here: Here, power: bool, run: Run, reading: Reading) -> Done
     requires { ⌜ Few power run ⌝ }
-    ensures { λ r. ⌜ DoesPlain settings here power run (tickOf reading) r ⌝ }
+    ensures { λ result. ⌜ DoesPlain settings here power run (tickOf reading) result ⌝ }
 {
     if !power {
         return refused(power, run, Refusal::PowerOff);

@@ -13,7 +13,7 @@ use writer::Patterns;
 // Fifteen bytes, two apart.
 fn each_second(pairs: &[u8], at: usize) -> [u8; 15]
     requires { ⌜ at < 1000 ⌝ }
-    ensures { λ r. ⌜ r ≡ tab (field 1 (now (pairs .entry))) 2 at 15 ⌝ }
+    ensures { λ result. ⌜ result ≡ tab (field 1 (now (pairs .entry))) 2 at 15 ⌝ }
 {
     let mut values = [0u8; 15];
     let mut index: usize = 0;
@@ -26,7 +26,7 @@ fn each_second(pairs: &[u8], at: usize) -> [u8; 15]
 
 // The 99 steps.
 fn all_steps(steps: &[u8]) -> [Step; 99]
-    ensures { λ r. ⌜ r ≡ tab (stepAt (now (steps .entry))) 9 0 99 ⌝ }
+    ensures { λ result. ⌜ result ≡ tab (stepAt (now (steps .entry))) 9 0 99 ⌝ }
 {
     let first = step_at(steps, 0);
     let mut all = [first; 99];
@@ -41,7 +41,7 @@ fn all_steps(steps: &[u8]) -> [Step; 99]
 
 // The patterns.
 pub fn patterns_from(pairs: &[u8], steps: &[u8]) -> Patterns
-    ensures { λ r. ⌜ r ≡ patternsFrom (now (pairs .entry)) (now (steps .entry)) ⌝ }
+    ensures { λ result. ⌜ result ≡ patternsFrom (now (pairs .entry)) (now (steps .entry)) ⌝ }
 {
     let runs = each_second(pairs, 0);
     let counts = each_second(pairs, 1);

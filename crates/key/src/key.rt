@@ -13,7 +13,7 @@ use position::Command;
 
 // A key by itself.
 pub fn alone(c: u8) -> Asked
-    ensures { λ r. ⌜ r ≡ keyOf c ⌝ }
+    ensures { λ result. ⌜ result ≡ keyOf c ⌝ }
 {
     match c {
         b'S' => Asked::Of(Event::Press(Command::Start)),
@@ -30,7 +30,7 @@ pub fn alone(c: u8) -> Asked
 
 // Whether a value is one byte, c.
 fn is_only(c: u8, cs: &[u8]) -> bool
-    ensures { λ r. ⌜ r ≡ isOnly c (now (cs .entry)) ⌝ }
+    ensures { λ result. ⌜ result ≡ isOnly c (now (cs .entry)) ⌝ }
 {
     if cs.len() != 1 {
         return false;
@@ -40,7 +40,7 @@ fn is_only(c: u8, cs: &[u8]) -> bool
 
 // N: the pattern asked for.
 fn select(cs: &[u8]) -> Asked
-    ensures { λ r. ⌜ r ≡ valuedOf 78 (now (cs .entry)) ⌝ }
+    ensures { λ result. ⌜ result ≡ valuedOf 78 (now (cs .entry)) ⌝ }
 {
     let Number::Value(q) = number(cs) else {
         return Asked::NoForm;
@@ -50,7 +50,7 @@ fn select(cs: &[u8]) -> Asked
 
 // A tick, or a return.
 fn event(reading: Reading, returns: bool) -> Event
-    ensures { λ r. ⌜ r ≡ cond returns (Event.Return reading) (Event.Tick reading) ⌝ }
+    ensures { λ result. ⌜ result ≡ cond returns (Event.Return reading) (Event.Tick reading) ⌝ }
 {
     if returns {
         return Event::Return(reading);
@@ -60,7 +60,7 @@ fn event(reading: Reading, returns: bool) -> Event
 
 // T and R: H is over, L under.
 fn reading(cs: &[u8], returns: bool) -> Asked
-    ensures { λ r. ⌜ r ≡ cond returns (returnOf (now (cs .entry))) (tickOf (now (cs .entry))) ⌝ }
+    ensures { λ result. ⌜ result ≡ cond returns (returnOf (now (cs .entry))) (tickOf (now (cs .entry))) ⌝ }
 {
     if is_only(b'H', cs) {
         return Asked::Of(event(Reading::Over, returns));
@@ -76,7 +76,7 @@ fn reading(cs: &[u8], returns: bool) -> Asked
 
 // A key with a value.
 pub fn valued(c: u8, cs: &[u8]) -> Asked
-    ensures { λ r. ⌜ r ≡ valuedOf c (now (cs .entry)) ⌝ }
+    ensures { λ result. ⌜ result ≡ valuedOf c (now (cs .entry)) ⌝ }
 {
     match c {
         b'N' => select(cs),

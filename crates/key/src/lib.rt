@@ -15,7 +15,7 @@ pub enum Number {
 
 // What a line asks for. The line is its bytes, without the newline that ends it.
 pub fn parse(line: &[u8]) -> Asked
-    ensures { λ r. ⌜ r ≡ askedBy (now (line .entry)) ⌝ }
+    ensures { λ result. ⌜ result ≡ askedBy (now (line .entry)) ⌝ }
 {
     let c = byte(line, 0);
     if line.len() == 1 {

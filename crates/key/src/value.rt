@@ -7,7 +7,7 @@ use field::byte;
 
 // One to five digits, after a minus or not.
 fn digits(cs: &[u8], minus: bool) -> Number
-    ensures { λ r. ⌜ r ≡ cond minus (negated (unsigned (now (cs .entry)))) (unsigned (now (cs .entry))) ⌝ }
+    ensures { λ result. ⌜ result ≡ cond minus (negated (unsigned (now (cs .entry)))) (unsigned (now (cs .entry))) ⌝ }
 {
     if cs.len() < 1 {
         return Number::NoForm;
@@ -36,7 +36,7 @@ fn digits(cs: &[u8], minus: bool) -> Number
 
 // An optional minus and one to five digits.
 pub fn number(cs: &[u8]) -> Number
-    ensures { λ r. ⌜ r ≡ numberOf (now (cs .entry)) ⌝ }
+    ensures { λ result. ⌜ result ≡ numberOf (now (cs .entry)) ⌝ }
 {
     if byte(cs, 0) == b'-' {
         return digits(&cs[1..], true);

@@ -33,7 +33,7 @@ pub struct Started {
 
 // The beginning: a controller is made, and no line has begun. A refused bank's numbers stand at the front of `out`.
 pub fn start(bank: &[u8], store: &mut [u8], out: &mut [u8]) -> Started
-    ensures { λ r. ⌜ Begun (over (now (bank .entry))) (now (store .entry)) (now (out .entry)) (after (r .ran) (now (store .exit)) (now (out .exit))) (r .«is_accepted») ⌝ }
+    ensures { λ result. ⌜ Begun (over (now (bank .entry))) (now (store .entry)) (now (out .entry)) (after (result .ran) (now (store .exit)) (now (out .exit))) (result .«is_accepted») ⌝ }
 {
     let made = controller::make(bank, store);
     let state = made.state;
@@ -61,7 +61,7 @@ pub fn start(bank: &[u8], store: &mut [u8], out: &mut [u8]) -> Started
 
 // A part of the input: each line that ends in it is run, and the text of all stands at the front of `out`.
 pub fn run(bank: &[u8], store: &mut [u8], between: Between, input: &[u8], out: &mut [u8]) -> Ran
-    ensures { λ r. ⌜ after r (now (store .exit)) (now (out .exit)) ≡ runOf (over (now (bank .entry))) (found between (now (store .entry))) (now (input .entry)) (now (out .entry)) ⌝ }
+    ensures { λ result. ⌜ after result (now (store .exit)) (now (out .exit)) ≡ runOf (over (now (bank .entry))) (found between (now (store .entry))) (now (input .entry)) (now (out .entry)) ⌝ }
 {
     let mut ran = Ran { between, end: 0 };
     if out.len() / 168 < input.len() {
@@ -77,7 +77,7 @@ pub fn run(bank: &[u8], store: &mut [u8], between: Between, input: &[u8], out: &
 
 // The end of the input: a last line without a newline counts if it is not empty.
 pub fn finish(bank: &[u8], store: &mut [u8], between: Between, out: &mut [u8]) -> Ran
-    ensures { λ r. ⌜ after r (now (store .exit)) (now (out .exit)) ≡ finishOf (over (now (bank .entry))) (found between (now (store .entry))) (now (out .entry)) ⌝ }
+    ensures { λ result. ⌜ after result (now (store .exit)) (now (out .exit)) ≡ finishOf (over (now (bank .entry))) (found between (now (store .entry))) (now (out .entry)) ⌝ }
 {
     let ran = Ran { between, end: 0 };
     if out.len() < 168 {
@@ -91,7 +91,7 @@ pub fn finish(bank: &[u8], store: &mut [u8], between: Between, out: &mut [u8]) -
 
 // The credits of a state: a line `k seconds` for each step whose credit is not 0, at the front of `out`.
 pub fn credits(state: State, out: &mut [u8]) -> usize
-    ensures { λ r. ⌜ put (now (out .exit)) r ≡ creditsOf (state .credits) (now (out .entry)) ⌝ }
+    ensures { λ result. ⌜ put (now (out .exit)) result ≡ creditsOf (state .credits) (now (out .entry)) ⌝ }
 {
     if out.len() < 4158 {
         return 0;

@@ -37,7 +37,7 @@ struct Said {
 
 // What a line asks for is done; a line of any other form has the number 99.
 fn respond(bank: &[u8], store: &mut [u8], state: State, asked: Asked) -> Said
-    ensures { λ r. ⌜ said (over (now (bank .entry))) (stateOf (r .state)) (now (store .exit)) (pos (r .number)) ≡ askedFor (over (now (bank .entry))) (now (store .entry)) (stateOf state) asked ⌝ }
+    ensures { λ o. ⌜ said (over (now (bank .entry))) (stateOf (o .state)) (now (store .exit)) (pos (o .number)) ≡ askedFor (over (now (bank .entry))) (now (store .entry)) (stateOf state) asked ⌝ }
 {
     let Asked::Of(wanted) = asked else {
         return Said { state, number: 99 };
@@ -53,7 +53,7 @@ fn respond(bank: &[u8], store: &mut [u8], state: State, asked: Asked) -> Said
 
 // The smaller of two numbers.
 fn least(x: usize, y: usize) -> usize
-    ensures { λ r. ⌜ r ≡ min x y ⌝ }
+    ensures { λ result. ⌜ result ≡ min x y ⌝ }
 {
     if x < y { x } else { y }
 }
@@ -61,7 +61,7 @@ fn least(x: usize, y: usize) -> usize
 // The line so far is run, and its text stands at a place of the buffer. No line has begun then.
 pub fn take_line(bank: &[u8], store: &mut [u8], ran: Ran, out: &mut [u8]) -> Ran
     requires { ⌜ ran .end + 168 ≤ length (now out) ⌝ }
-    ensures { λ r. ⌜ after r (now (store .exit)) (now (out .exit)) ≡ tookLine (over (now (bank .entry))) (found (ran .between) (now (store .entry))) (now (out .entry)) (ran .end) ⌝ }
+    ensures { λ result. ⌜ after result (now (store .exit)) (now (out .exit)) ≡ tookLine (over (now (bank .entry))) (found (ran .between) (now (store .entry))) (now (out .entry)) (ran .end) ⌝ }
 {
     let between = ran.between;
     let state = between.state;
@@ -83,7 +83,7 @@ pub fn take_line(bank: &[u8], store: &mut [u8], ran: Ran, out: &mut [u8]) -> Ran
 // A byte of the input is taken: the newline ends a line; of any other line the first 16 bytes are kept.
 pub fn take(bank: &[u8], store: &mut [u8], ran: Ran, c: u8, out: &mut [u8]) -> Ran
     requires { ⌜ ran .end + 168 ≤ length (now out) ⌝ }
-    ensures { λ r. ⌜ after r (now (store .exit)) (now (out .exit)) ≡ tookByte (over (now (bank .entry))) (found (ran .between) (now (store .entry))) (now (out .entry)) (ran .end) c ⌝ }
+    ensures { λ result. ⌜ after result (now (store .exit)) (now (out .exit)) ≡ tookByte (over (now (bank .entry))) (found (ran .between) (now (store .entry))) (now (out .entry)) (ran .end) c ⌝ }
 {
     if c == b'\n' {
         return take_line(bank, store, ran, out);

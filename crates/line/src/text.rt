@@ -17,7 +17,7 @@ use setting::Checked;
 // Answer, mode, p, k, r, e, w, set value, at a place of a buffer that has room for them. Gives the place where they end.
 pub fn put_eight(bank: &[u8], number: u8, run: Run, out: &mut [u8], at: usize) -> usize
     requires { ⌜ at + 168 ≤ length (now out) ⌝ }
-    ensures { λ r. ⌜ put (now (out .exit)) r ≡ putText (now (out .entry)) at (lineOf (eight (over (now (bank .entry))) (pos number) run)) ⌝ }
+    ensures { λ result. ⌜ put (now (out .exit)) result ≡ putText (now (out .entry)) at (lineOf (eight (over (now (bank .entry))) (pos number) run)) ⌝ }
 {
     let position = run.position;
     let settings = setting::read_settings(bank);
@@ -37,7 +37,7 @@ pub fn put_eight(bank: &[u8], number: u8, run: Run, out: &mut [u8], at: usize) -
 
 // The numbers of a bank's refusal, at the front of a buffer that has room for eight; in any other nothing. Gives the place where they end.
 pub fn put_refusal(found: Checked, out: &mut [u8]) -> usize
-    ensures { λ r. ⌜ put (now (out .exit)) r ≡ putText (now (out .entry)) 0 (refusalIn (now (out .entry)) found) ⌝ }
+    ensures { λ result. ⌜ put (now (out .exit)) result ≡ putText (now (out .entry)) 0 (refusalIn (now (out .entry)) found) ⌝ }
 {
     if out.len() < 168 {
         return 0;
@@ -55,7 +55,7 @@ pub fn put_refusal(found: Checked, out: &mut [u8]) -> usize
 // The line `k seconds` of a step whose credit is not 0, at a place of a buffer that has room for it. Gives the place where it ends.
 fn put_credit(out: &mut [u8], at: usize, k: u8, credit: u32) -> usize
     requires { ⌜ at + 42 ≤ length (now out) ⌝ }
-    ensures { λ r. ⌜ put (now (out .exit)) r ≡ putText (now (out .entry)) at (creditLines k (credit ∷ [])) ⌝ }
+    ensures { λ result. ⌜ put (now (out .exit)) result ≡ putText (now (out .entry)) at (creditLines k (credit ∷ [])) ⌝ }
 {
     if credit == 0 {
         return at;
@@ -66,7 +66,7 @@ fn put_credit(out: &mut [u8], at: usize, k: u8, credit: u32) -> usize
 // The lines of all steps, at the front of a buffer that has room for 99 of them.
 pub fn put_credits(state: State, out: &mut [u8]) -> usize
     requires { ⌜ 4158 ≤ length (now out) ⌝ }
-    ensures { λ r. ⌜ put (now (out .exit)) r ≡ putText (now (out .entry)) 0 (creditLines 1 (state .credits)) ⌝ }
+    ensures { λ result. ⌜ put (now (out .exit)) result ≡ putText (now (out .entry)) 0 (creditLines 1 (state .credits)) ⌝ }
 {
     let credits = state.credits;
     let mut at: usize = 0;

@@ -10,7 +10,7 @@ use position::Command;
 
 // What a kind with a value asks for.
 pub fn event_of(kind: u32, v: i32) -> Asked
-    ensures { λ r. ⌜ r ≡ eventOfKind kind v ⌝ }
+    ensures { λ result. ⌜ result ≡ eventOfKind kind v ⌝ }
 {
     match kind {
         0 => Asked::Of(Event::Tick(Reading::Value(v))),
@@ -34,7 +34,7 @@ pub fn event_of(kind: u32, v: i32) -> Asked
 
 // What the five bytes at an offset ask for. Bytes past the end read as 0.
 pub fn asked_at(bytes: &[u8], at: usize) -> Asked
-    ensures { λ r. ⌜ r ≡ askedAt (now (bytes .entry)) at ⌝ }
+    ensures { λ result. ⌜ result ≡ askedAt (now (bytes .entry)) at ⌝ }
 {
     if bytes.len() <= at {
         return event_of(0, 0);
@@ -45,7 +45,7 @@ pub fn asked_at(bytes: &[u8], at: usize) -> Asked
 
 // Whether bytes are a list of events.
 pub fn is_list(bytes: &[u8]) -> bool
-    ensures { λ r. ⌜ r ≡ formed (now (bytes .entry)) ⌝ }
+    ensures { λ result. ⌜ result ≡ formed (now (bytes .entry)) ⌝ }
 {
     if bytes.len() % 5 != 0 {
         return false;

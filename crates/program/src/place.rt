@@ -8,7 +8,7 @@ use setting::Settings;
 
 // Entry i of four, counted from 1; 0 for any other number.
 pub fn entry(xs: [u16; 4], i: u8) -> u16
-    ensures { λ r. ⌜ r ≡ numbered xs i ⌝ }
+    ensures { λ result. ⌜ result ≡ numbered xs i ⌝ }
 {
     if i == 0 {
         return 0;
@@ -21,7 +21,7 @@ pub fn entry(xs: [u16; 4], i: u8) -> u16
 
 // The limit of passes: runs, or 9,999 for 0.
 fn limit(runs: u8) -> u16
-    ensures { λ r. ⌜ r ≡ limitOf runs ⌝ }
+    ensures { λ result. ⌜ result ≡ limitOf runs ⌝ }
 {
     if runs == 0 {
         return 9999;
@@ -31,7 +31,7 @@ fn limit(runs: u8) -> u16
 
 // What a bank says at a pattern and step, with its settings.
 pub fn here_at(bank: &[u8], settings: Settings, pattern: u8, step: u8) -> Here
-    ensures { λ r. ⌜ r ≡ hereOf settings (placeOf (now (bank .entry)) pattern step) ⌝ }
+    ensures { λ result. ⌜ result ≡ hereOf settings (placeOf (now (bank .entry)) pattern step) ⌝ }
 {
     let place = bank::place_of(bank, pattern, step);
     let found = place.step;

@@ -10,7 +10,7 @@ use setting::Settings;
 
 // Whether a time signal of number j is on.
 fn on(settings: Settings, position: Position, j: u8) -> bool
-    ensures { λ r. ⌜ r ≡ signalOf settings position j ⌝ }
+    ensures { λ result. ⌜ result ≡ signalOf settings position j ⌝ }
 {
     let ons = settings.on;
     let offs = settings.off;
@@ -22,7 +22,7 @@ fn on(settings: Settings, position: Position, j: u8) -> bool
 
 // The four time signals.
 fn signals(settings: Settings, here: Here, position: Position) -> Signals
-    ensures { λ r. ⌜ r ≡ signalsOf settings here position ⌝ }
+    ensures { λ result. ⌜ result ≡ signalsOf settings here position ⌝ }
 {
     let js = here.signals;
     Signals {
@@ -35,7 +35,7 @@ fn signals(settings: Settings, here: Here, position: Position) -> Signals
 
 // The set value and the signals.
 pub fn shown(settings: Settings, here: Here, position: Position) -> Shown
-    ensures { λ r. ⌜ r ≡ shownOf settings here position ⌝ }
+    ensures { λ result. ⌜ result ≡ shownOf settings here position ⌝ }
 {
     Shown {
         value: ramp::set_value(here, position),

@@ -8,7 +8,7 @@ use position::Position;
 
 // Whether a measured whole value is at or past the target, seen from base b.
 fn past(b: i16, target: i16, value: Whole) -> bool
-    ensures { λ r. ⌜ r ≡ pastOf b target value ⌝ }
+    ensures { λ result. ⌜ result ≡ pastOf b target value ⌝ }
 {
     let Whole::Value(v) = value else {
         return false;
@@ -21,7 +21,7 @@ fn past(b: i16, target: i16, value: Whole) -> bool
 
 // Whether a measured whole value is in the step's zone, seen from base b.
 fn in_zone(here: Here, b: i16, value: Whole) -> bool
-    ensures { λ r. ⌜ r ≡ inZoneOf here b value ⌝ }
+    ensures { λ result. ⌜ result ≡ inZoneOf here b value ⌝ }
 {
     if here.zone == 0 {
         return past(b, here.target, value);
@@ -31,7 +31,7 @@ fn in_zone(here: Here, b: i16, value: Whole) -> bool
 
 // A second of the step: its time, or its wait.
 fn second(here: Here, mut position: Position) -> Position
-    ensures { λ r. ⌜ r ≡ secondPosition here position ⌝ }
+    ensures { λ result. ⌜ result ≡ secondPosition here position ⌝ }
 {
     if here.endless {
         position.elapsed = if position.elapsed < 359999 {
@@ -55,7 +55,7 @@ fn second(here: Here, mut position: Position) -> Position
 
 // Whether the step is over.
 fn leaves(here: Here, value: Whole, position: Position) -> bool
-    ensures { λ r. ⌜ r ≡ leavesOf here value position ⌝ }
+    ensures { λ result. ⌜ result ≡ leavesOf here value position ⌝ }
 {
     let waited = in_zone(here, position.base, value) | (here.wait <= position.waited);
     !here.endless & ((position.elapsed == here.time) & ((here.number == 0) | waited))
@@ -63,7 +63,7 @@ fn leaves(here: Here, value: Whole, position: Position) -> bool
 
 // Mode 3.
 fn ended(position: Position) -> Position
-    ensures { λ r. ⌜ r ≡ endPosition position ⌝ }
+    ensures { λ result. ⌜ result ≡ endPosition position ⌝ }
 {
     Position {
         mode: 3,
@@ -78,7 +78,7 @@ fn ended(position: Position) -> Position
 
 // The next step, the next pass, or the end.
 fn next(here: Here, mut position: Position) -> Position
-    ensures { λ r. ⌜ r ≡ nextPosition here position ⌝ }
+    ensures { λ result. ⌜ result ≡ nextPosition here position ⌝ }
 {
     let value = ramp::set_value(here, position);
     if position.step < here.count {
@@ -98,7 +98,7 @@ fn next(here: Here, mut position: Position) -> Position
 
 // The position's part of a tick.
 pub fn tick(here: Here, value: Whole, position: Position) -> Position
-    ensures { λ r. ⌜ r ≡ tickPosition here value position ⌝ }
+    ensures { λ result. ⌜ result ≡ tickPosition here value position ⌝ }
 {
     if position.mode != 1 {
         return position;
@@ -112,7 +112,7 @@ pub fn tick(here: Here, value: Whole, position: Position) -> Position
 
 // Feed: next; mode 3 if endless.
 pub fn feed(here: Here, position: Position) -> Position
-    ensures { λ r. ⌜ r ≡ feedPosition here position ⌝ }
+    ensures { λ result. ⌜ result ≡ feedPosition here position ⌝ }
 {
     if here.endless {
         return ended(position);

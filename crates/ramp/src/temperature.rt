@@ -8,7 +8,7 @@ use measure::Whole;
 
 // How far a temperature is above -32,768.
 fn above(z: i16) -> u32
-    ensures { λ r. ⌜ r ≡ raised z ⌝ }
+    ensures { λ result. ⌜ result ≡ raised z ⌝ }
 {
     (z as i32 + 32768) as u32
 }
@@ -16,14 +16,14 @@ fn above(z: i16) -> u32
 // The temperature that is so far above -32,768.
 fn from_above(m: u32) -> i16
     requires { ⌜ m < 65536 ⌝ }
-    ensures { λ r. ⌜ r ≡ lowered m ⌝ }
+    ensures { λ result. ⌜ result ≡ lowered m ⌝ }
 {
     (m as i32 - 32768) as i16
 }
 
 // How far apart two temperatures are.
 pub fn distance(x: i16, y: i16) -> u32
-    ensures { λ r. ⌜ r ≡ apart x y ⌝ }
+    ensures { λ result. ⌜ result ≡ apart x y ⌝ }
 {
     let i = above(x);
     let j = above(y);
@@ -33,7 +33,7 @@ pub fn distance(x: i16, y: i16) -> u32
 // b moved toward the target by an amount.
 pub fn moved(b: i16, target: i16, amount: u32) -> i16
     requires { ⌜ amount ≤ apart target b ⌝ }
-    ensures { λ r. ⌜ r ≡ toward b target amount ⌝ }
+    ensures { λ result. ⌜ result ≡ toward b target amount ⌝ }
 {
     let from = above(b);
     if from <= above(target) {
@@ -45,7 +45,7 @@ pub fn moved(b: i16, target: i16, amount: u32) -> i16
 
 // Whether a measured whole value is within a width of a temperature.
 pub fn near(width: u16, x: i16, value: Whole) -> bool
-    ensures { λ r. ⌜ r ≡ nearOf width x value ⌝ }
+    ensures { λ result. ⌜ result ≡ nearOf width x value ⌝ }
 {
     let Whole::Value(v) = value else {
         return false;

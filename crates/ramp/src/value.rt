@@ -11,7 +11,7 @@ use position::Position;
 // e of t parts of a distance, rounded down. e counts as at most t.
 fn part(distance: u32, e: u32, t: u32) -> u32
     requires { ⌜ Divides distance t ⌝ }
-    ensures { λ r. ⌜ (r ≡ distance * min e t / t) × (r ≤ distance) ⌝ }
+    ensures { λ result. ⌜ (result ≡ distance * min e t / t) × (result ≤ distance) ⌝ }
 {
     let m = if e <= t { e } else { t };
     (distance as u64 * m as u64 / t as u64) as u32
@@ -19,7 +19,7 @@ fn part(distance: u32, e: u32, t: u32) -> u32
 
 // The set value of a step from base b, e seconds in.
 fn ramp(here: Here, b: i16, e: u32) -> i16
-    ensures { λ r. ⌜ r ≡ rampOf here b e ⌝ }
+    ensures { λ result. ⌜ result ≡ rampOf here b e ⌝ }
 {
     if (here.time == 0) | here.endless {
         return here.target;
@@ -29,7 +29,7 @@ fn ramp(here: Here, b: i16, e: u32) -> i16
 
 // The set value; 0 in modes 0 and 3.
 pub fn set_value(here: Here, position: Position) -> i16
-    ensures { λ r. ⌜ r ≡ setValueOf here position ⌝ }
+    ensures { λ result. ⌜ result ≡ setValueOf here position ⌝ }
 {
     if (position.mode == 1) | (position.mode == 2) {
         return ramp(here, position.base, position.elapsed);

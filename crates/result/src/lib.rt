@@ -16,21 +16,21 @@ use writer::Written;
 
 // A number and its values.
 fn packed_of(numbers: Numbers) -> u64
-    ensures { λ r. ⌜ r ≡ numbers .number + 256 * numbers .first + 16777216 * numbers .second ⌝ }
+    ensures { λ result. ⌜ result ≡ numbers .number + 256 * numbers .first + 16777216 * numbers .second ⌝ }
 {
     numbers.number as u64 + 256 * (numbers.first as u64) + 16777216 * (numbers.second as u64)
 }
 
 // What the check of a bank finds.
 pub fn of_checked(found: Checked) -> u64
-    ensures { λ r. ⌜ r ≡ packed (bankNumbers found) ⌝ }
+    ensures { λ result. ⌜ result ≡ packed (bankNumbers found) ⌝ }
 {
     packed_of(answer::of_checked(found))
 }
 
 // What writing a bank gives.
 pub fn of_written(written: Written) -> u64
-    ensures { λ r. ⌜ r ≡ packed (writtenNumbers written) ⌝ }
+    ensures { λ result. ⌜ result ≡ packed (writtenNumbers written) ⌝ }
 {
     match written {
         Written::Length(length) => 256 * (length as u64),
@@ -41,21 +41,21 @@ pub fn of_written(written: Written) -> u64
 
 // A bit of a weight, if it is set.
 fn bit(on: bool, weight: u64) -> u64
-    ensures { λ r. ⌜ r ≡ cond on weight 0 ⌝ }
+    ensures { λ result. ⌜ result ≡ cond on weight 0 ⌝ }
 {
     if on { weight } else { 0 }
 }
 
 // The four signals as four bits.
 fn signal_bits(signals: Signals) -> u64
-    ensures { λ r. ⌜ r ≡ signalBits signals ⌝ }
+    ensures { λ result. ⌜ result ≡ signalBits signals ⌝ }
 {
     bit(signals.first, 1) + bit(signals.second, 2) + bit(signals.third, 4) + bit(signals.fourth, 8)
 }
 
 // What is shown: the set value above bit 31, the signals above bit 47.
 fn of_shown(shown: Shown) -> u64
-    ensures { λ r. ⌜ r ≡ resultOf (Answer.Accepted shown) ⌝ }
+    ensures { λ result. ⌜ result ≡ resultOf (Answer.Accepted shown) ⌝ }
 {
     let signals = shown.signals;
     4294967296 * (bits(shown.value) as u64) + 281474976710656 * signal_bits(signals)
@@ -63,7 +63,7 @@ fn of_shown(shown: Shown) -> u64
 
 // An answer: what is shown if it is accepted.
 pub fn of_answer(answer: Answer) -> u64
-    ensures { λ r. ⌜ r ≡ resultOf answer ⌝ }
+    ensures { λ result. ⌜ result ≡ resultOf answer ⌝ }
 {
     match answer {
         Answer::Accepted(shown) => of_shown(shown),

@@ -8,7 +8,7 @@ use position::Position;
 
 // The run of a state with power off, all zeros.
 pub fn dark_run() -> Run
-    ensures { λ r. ⌜ r ≡ darkRun ⌝ }
+    ensures { λ result. ⌜ result ≡ darkRun ⌝ }
 {
     Run {
         position: Position {
@@ -27,7 +27,7 @@ pub fn dark_run() -> Run
 
 // The place of the credit of step k, which counts from 1.
 pub fn place_of(k: u8) -> usize
-    ensures { λ r. ⌜ r ≡ k - 1 ⌝ }
+    ensures { λ result. ⌜ result ≡ k - 1 ⌝ }
 {
     if k == 0 {
         return 0; // no step
@@ -37,7 +37,7 @@ pub fn place_of(k: u8) -> usize
 
 // One more, held at 4,294,967,295.
 pub fn one_more(credit: u32) -> u32
-    ensures { λ r. ⌜ r ≡ min (credit + 1) 4294967295 ⌝ }
+    ensures { λ result. ⌜ result ≡ min (credit + 1) 4294967295 ⌝ }
 {
     if credit < 4294967295 {
         credit + 1

@@ -33,7 +33,7 @@ struct Turn {
 
 // A file is read to its end, or until the buffer is full.
 fn read_file(file: i32, buffer: &mut [u8]) -> Loaded
-    ensures { λ r. ⌜ Counts (r .size) (now (buffer .exit)) ⌝ }
+    ensures { λ result. ⌜ Counts (result .size) (now (buffer .exit)) ⌝ }
 {
     let mut size: usize = 0;
     while size < buffer.len() {
@@ -60,7 +60,7 @@ fn read_file(file: i32, buffer: &mut [u8]) -> Loaded
 // The bank is read from bank.bin, its first bytes if it is longer than the buffer: 4,096 of them have the refusal of the whole, since the
 // longest bank has 1,011 bytes (`front-tells` of crate `bank`).
 pub fn load_bank(buffer: &mut [u8]) -> Loaded
-    ensures { λ r. ⌜ Counts (r .size) (now (buffer .exit)) ⌝ }
+    ensures { λ result. ⌜ Counts (result .size) (now (buffer .exit)) ⌝ }
 {
     let path = b"bank.bin";
     let file = os::open_read(path);
@@ -81,7 +81,7 @@ pub fn load_bank(buffer: &mut [u8]) -> Loaded
 
 // The bytes of a buffer up to an end are written; false, with a message, where that fails.
 pub fn show(out: &[u8], end: usize) -> bool
-    ensures { λ r. ⌜ (r ≡ true → end ≤ length (now (out .entry))) ⌝ }
+    ensures { λ result. ⌜ (result ≡ true → end ≤ length (now (out .entry))) ⌝ }
 {
     if out.len() < end {
         return false;
@@ -104,7 +104,7 @@ fn tell(out: &[u8], end: usize, shows: bool) -> bool {
 // Lines are read once, and run. Their text is shown before the next read, so that who types a line sees it.
 fn take_turn(bank: &[u8], store: &mut [u8], between: Between, out: &mut [u8], shows: bool) -> Turn
     requires { ⌜ 43008 ≤ length (now out) ⌝ }
-    ensures { λ r. ⌜ Turned (over (now (bank .entry))) (found between (now (store .entry))) (found (r .between) (now (store .exit))) (r .«goes_on») (r .«is_whole») ⌝ }
+    ensures { λ result. ⌜ Turned (over (now (bank .entry))) (found between (now (store .entry))) (found (result .between) (now (store .exit))) (result .«goes_on») (result .«is_whole») ⌝ }
 {
     let mut input = [0u8; 256];
     let got = libc::read(STDIN_FILENO, &mut input);
@@ -138,7 +138,7 @@ fn take_turn(bank: &[u8], store: &mut [u8], between: Between, out: &mut [u8], sh
 // Lines are read until they end, or a read or a write fails. A proved loop has to end, and nothing says that the lines do, so the loop
 // counts its turns down, from a number that no run uses up.
 fn run_lines(bank: &[u8], store: &mut [u8], between: Between, shows: bool) -> Ended
-    ensures { λ r. ⌜ (r .«is_whole» ≡ true → Whole (over (now (bank .entry))) (found between (now (store .entry))) (found (r .between) (now (store .exit)))) ⌝ }
+    ensures { λ result. ⌜ (result .«is_whole» ≡ true → Whole (over (now (bank .entry))) (found between (now (store .entry))) (found (result .between) (now (store .exit)))) ⌝ }
 {
     let mut out = io::large_buffer();
     let mut turn = Turn {
@@ -164,7 +164,7 @@ fn run_lines(bank: &[u8], store: &mut [u8], between: Between, shows: bool) -> En
 
 // A controller is made over the bank, and the lines are run by it. A refused bank prints its refusal's numbers and nothing more.
 pub fn run_bank(bank: &[u8], shows: bool) -> Ended
-    ensures { λ r. ⌜ (r .«is_whole» ≡ true → All (over (now (bank .entry))) (stateOf (r .between .state))) ⌝ }
+    ensures { λ result. ⌜ (result .«is_whole» ≡ true → All (over (now (bank .entry))) (stateOf (result .between .state))) ⌝ }
 {
     let mut store = [0u8; 411];
     let mut out = [0u8; 168];

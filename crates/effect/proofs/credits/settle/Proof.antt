@@ -52,8 +52,8 @@ returns-2 c = rw (c .before .before .before .before .before .credit .given .1, c
 returns-3 : tie.Need-returns-3
 unfolding credited cooked
 returns-3 c =
-    let s′ = c .before .before .before .before .before .before in
-    rw (c .before .before .before .credit .given .1) (sym (set-past (now (s′ .args .credits)) _ _ (omega (arith, s′ .pre, c .if1 .left, c .before .place-of .ensures))))
+    let start = c .before .before .before .before .before .before in
+    rw (c .before .before .before .credit .given .1) (sym (set-past (now (start .args .credits)) _ _ (omega (arith, start .pre, c .if1 .left, c .before .place-of .ensures))))
 
 returns-4 : tie.Need-returns-4
 unfolding credited
