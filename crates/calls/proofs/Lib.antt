@@ -5,3 +5,4 @@ pub mod Meets
 pub mod Place
 pub mod Written
 pub mod Against
+pub mod Replies

@@ -242,6 +242,27 @@ refused-saves setup store power run event =
     accepts Event.Cut = refl
     accepts (Event.Return reading) = refl
 
+-- over an accepted bank no event is answered with a refusal of the bank
+pub known-answers : (setup : Setup) (store : List ℕ) (power : Bool) (run : Run) (event : Event) → passes (foundIn (setup .bank)) ≡ true
+    → isBank (eventEffect setup store power run event .answer) ≡ false
+unfolding eventEffect knownEffect cutEffect
+known-answers setup store power run event ok =
+    let rows = eventRows setup (retainedIn setup store) power run event in
+    rw ok (judged-cases Other (refused power run) (acceptedEffect setup store run event) rows (met rows) (λ _. takes event))
+  where
+    Other : Effect → Type 0
+    Other x = isBank (x .answer) ≡ false
+
+    met : (rows : List Row) → Met Other (refused power run) (acceptedEffect setup store run event) rows
+    met [] = tt
+    met (row ∷ rows) = (λ _. refl, met rows)
+
+    takes : (event : Event) → Other (acceptedEffect setup store run event)
+    takes (Event.Tick reading) = refl
+    takes (Event.Press command) = refl
+    takes Event.Cut = refl
+    takes (Event.Return reading) = refl
+
 -- bytes that are a state have its size
 pub state-long : (bytes : List ℕ) → isState bytes ≡ true → length bytes ≡ stateSize
 unfolding isState roomy
@@ -275,22 +296,7 @@ module _ (setup : Setup) (store bytes : List ℕ) (event : Event) where
 
   -- and over one that is accepted
   known-effect : passes (foundIn (setup .bank)) ≡ true → isBank (effect .answer) ≡ false
-  unfolding eventEffect knownEffect cutEffect
-  known-effect ok =
-      let rows = eventRows setup (retainedIn setup store) power run event in
-      let none : (rows : List Row) → Met (λ (x : Effect). isBank (x .answer) ≡ false) (refused power run) (acceptedEffect setup store run event) rows =
-      met in
-      rw ok (judged-cases (λ (x : Effect). isBank (x .answer) ≡ false) (refused power run) (acceptedEffect setup store run event) rows (none rows) (λ _. takes event))
-    where
-      met : (rows : List Row) → Met (λ (x : Effect). isBank (x .answer) ≡ false) (refused power run) (acceptedEffect setup store run event) rows
-      met [] = tt
-      met (row ∷ rows) = (λ _. refl, met rows)
-
-      takes : (event : Event) → isBank (acceptedEffect setup store run event .answer) ≡ false
-      takes (Event.Tick reading) = refl
-      takes (Event.Press command) = refl
-      takes Event.Cut = refl
-      takes (Event.Return reading) = refl
+  known-effect = known-answers setup store power run event
 
   known-left : passes (foundIn (setup .bank)) ≡ true
       → left ≡ cond (isState bytes) (carriedOut bytes (eventOutcome setup store (stateIn bytes) event)) (afterCarried (Answer.Refused Refusal.Unsound) store bytes)
