@@ -7,8 +7,8 @@
  * stored low byte first.
  *
  * Every call gives one 64-bit result:
- *   bits  0-7   number: 0 accepted, 11-31 a refusal of document 01,
- *               99 a call of no known form
+ *   bits  0-7   number: 0 accepted, 11-31 a refusal of document 01, 41 an
+ *               alarm setting out of range, 99 a call of no known form
  *   bits  8-23  first value of the number (offset, pair, pattern, length)
  *   bits 24-31  second value of the number (step)
  *   bits 32-47  set value, signed 16 bits, tenths of a degree
@@ -16,9 +16,16 @@
  * On a refusal the bits above 31 are 0.
  *
  * Refusals come in this order: 99, then the bank's own (11-14), then 21, then
- * 22, then the rest, lower numbers first. A refusal leaves every buffer as it
- * was, but for cook_run: where its last event is refused, what the events
- * before that one left is written.
+ * 22, then 41, then the rest, lower numbers first. A refusal leaves every
+ * buffer as it was, but for cook_run: where its last event is refused, what the
+ * events before that one left is written.
+ *
+ * The settings of the four alarms go beside the bank, as COOK_CONFIG_LEN bytes
+ * called config, to every call but cook_check and cook_write; another length is
+ * 99. They are read and never written. COOK_CONFIG_LEN zeros are four alarms
+ * that never go on. A host gives the same settings for as long as it uses a
+ * state and its record: both are judged by the settings that they come with,
+ * and under others the state may be answered 21 and the record 31.
  */
 #ifndef COOK_H
 #define COOK_H
@@ -36,13 +43,17 @@ extern "C" {
 #define COOK_STEPS_LEN 891    /* 99 steps of nine bytes */
 #define COOK_STEP_LEN 9       /* one step */
 #define COOK_BANK_MAX 1011    /* the longest bank */
-#define COOK_RECORD_LEN 411   /* the record in retained memory */
-#define COOK_STATE_LEN 422    /* a state */
+#define COOK_CONFIG_LEN 40    /* the settings beside the bank: four alarms */
+#define COOK_ALARM_LEN 10     /* the settings of one alarm */
+#define COOK_RECORD_LEN 423   /* the record in retained memory */
+#define COOK_STATE_LEN 434    /* a state */
 #define COOK_EVENT_LEN 5      /* one event of a list */
 #define COOK_STEP_COUNT 99    /* steps, each with its credit */
+#define COOK_ALARM_COUNT 4    /* alarms */
 
 /* Numbers of results that are no refusal of document 01. */
 #define COOK_ACCEPTED 0
+#define COOK_ALARM_RANGE 41   /* an alarm setting out of range */
 #define COOK_NO_FORM 99
 
 /* Kinds of events. "value" says what the value of the event is. */
@@ -64,6 +75,41 @@ enum cook_kind {
     COOK_RETURN_UNDER = 14
 };
 
+/* Offsets in the settings of an alarm; alarm 1-4 starts at 0, 10, 20, 30. */
+enum cook_alarm_offset {
+    COOK_ALARM_KIND = 0,        /* an enum cook_alarm_kind */
+    COOK_ALARM_HIGH = 1,        /* H, signed 16 bits, -19999 to 29999 */
+    COOK_ALARM_LOW = 3,         /* L, signed 16 bits, -19999 to 29999 */
+    COOK_ALARM_SENSITIVITY = 5, /* C, 16 bits, 0 to 9999 */
+    COOK_ALARM_DELAY = 7,       /* 16 bits, 0 to 9999 ticks */
+    COOK_ALARM_FLAGS = 9        /* COOK_ALARM_HOLD, COOK_ALARM_STANDBY */
+};
+
+/*
+ * Kinds of alarms. The deviation is the measured whole value less the set
+ * value. Every field is held to its range, whatever the kind; between L and H
+ * includes both and needs L <= H.
+ */
+enum cook_alarm_kind {
+    COOK_ALARM_NEVER = 0,
+    COOK_ALARM_DEVIATION_OUTSIDE = 1,  /* deviation at least H or at most L */
+    COOK_ALARM_DEVIATION_AT_LEAST = 2, /* deviation at least H */
+    COOK_ALARM_DEVIATION_AT_MOST = 3,  /* deviation at most L */
+    COOK_ALARM_DEVIATION_BETWEEN = 4,  /* deviation between L and H */
+    COOK_ALARM_MEASURED_OUTSIDE = 5,   /* measured at least H or at most L */
+    COOK_ALARM_MEASURED_AT_LEAST = 6,  /* measured at least H */
+    COOK_ALARM_MEASURED_AT_MOST = 7,   /* measured at most L */
+    COOK_ALARM_MEASURED_BETWEEN = 8    /* measured between L and H */
+};
+
+/* Flags in the settings of an alarm. */
+#define COOK_ALARM_HOLD 1     /* once on, it stays on until it is cleared */
+#define COOK_ALARM_STANDBY 2  /* it waits for one false tick after a start */
+
+/* Flags of an alarm in a state. */
+#define COOK_ALARM_ON 1
+#define COOK_ALARM_PASSED 2   /* standby passed; 0 without standby */
+
 /* Offsets in a state: power, the record's layout from 1 on, u, measured. */
 enum cook_state_offset {
     COOK_AT_POWER = 0,      /* 0 off, 1 on */
@@ -75,9 +121,10 @@ enum cook_state_offset {
     COOK_AT_WAITED = 10,    /* 32 bits, seconds */
     COOK_AT_BASE = 14,      /* signed 16 bits */
     COOK_AT_CREDITS = 16,   /* 99 of 32 bits, seconds */
-    COOK_AT_U = 412,        /* ticks since the last save */
-    COOK_AT_MEASURED = 413, /* 0 none, 1 over, 2 under, 3 value */
-    COOK_AT_VALUE = 414     /* 64-bit float, 0 unless the kind is 3 */
+    COOK_AT_ALARMS = 412,   /* four of flags (a byte) and count (16 bits) */
+    COOK_AT_U = 424,        /* ticks since the last save */
+    COOK_AT_MEASURED = 425, /* 0 none, 1 over, 2 under, 3 value */
+    COOK_AT_VALUE = 426     /* 64-bit float, 0 unless the kind is 3 */
 };
 
 /*
@@ -101,37 +148,41 @@ uint64_t cook_write(const uint8_t *settings, size_t settings_len,
 
 /*
  * Makes a fresh controller over a bank: writes its state and its record.
- * Whatever the two buffers held before is not read. 11-14 for the bank, 21 if
- * state has not COOK_STATE_LEN bytes, 22 if record has not COOK_RECORD_LEN.
+ * Whatever the two buffers held before is not read. 99 if config has not
+ * COOK_CONFIG_LEN bytes, 11-14 for the bank, 21 if state has not COOK_STATE_LEN
+ * bytes, 22 if record has not COOK_RECORD_LEN, 41 for config.
  */
 uint64_t cook_make(const uint8_t *bank, size_t bank_len,
+                   const uint8_t *config, size_t config_len,
                    uint8_t *record, size_t record_len,
                    uint8_t *state, size_t state_len);
 
 /*
  * Gives one event to a controller: state becomes the next state, and record is
  * written whole if the event saves. value is ignored by kinds that have none.
- * The bank is checked anew. After a cut state is all zeros; record is what a
- * return starts from. 99 for a kind above COOK_RETURN_UNDER; 21 for bytes that
- * are no state (another length, a power above 1, a kind of measured value above
- * 3, a NaN, a value with no kind 3, all with power off too) and for a state
- * that is not sound.
+ * The bank and config are checked anew. After a cut state is all zeros; record
+ * is what a return starts from. 99 for a kind above COOK_RETURN_UNDER and for a
+ * config of another length; 21 for bytes that are no state (another length, a
+ * power above 1, a kind of measured value above 3, a NaN, a value with no kind
+ * 3, all with power off too) and for a state that is not sound.
  */
 uint64_t cook_event(const uint8_t *bank, size_t bank_len,
+                    const uint8_t *config, size_t config_len,
                     uint8_t *record, size_t record_len,
                     uint8_t *state, size_t state_len,
                     uint32_t kind, int32_t value);
 
 /*
  * Makes a controller and gives it a list of events, each of five bytes: kind,
- * then the value as a signed 32-bit number. The bank is checked once. If
- * making is refused nothing changes and its refusal is the result. Otherwise
- * state and record after the list are written, also where the last event was
- * refused, and the result is the answer to the last event (making's if the
- * list is empty). 99 if the length is no multiple of five or a kind is above
- * COOK_RETURN_UNDER.
+ * then the value as a signed 32-bit number. The bank and config are checked
+ * once. If making is refused nothing changes and its refusal is the result.
+ * Otherwise state and record after the list are written, also where the last
+ * event was refused, and the result is the answer to the last event (making's
+ * if the list is empty). 99 if the list's length is no multiple of five, a kind
+ * is above COOK_RETURN_UNDER or config has another length.
  */
 uint64_t cook_run(const uint8_t *bank, size_t bank_len,
+                  const uint8_t *config, size_t config_len,
                   uint8_t *record, size_t record_len,
                   uint8_t *state, size_t state_len,
                   const uint8_t *events, size_t events_len);
@@ -184,6 +235,30 @@ static inline uint32_t cook_get32(const uint8_t *bytes, size_t at)
 static inline uint32_t cook_credit(const uint8_t *state, unsigned step)
 {
     return cook_get32(state, COOK_AT_CREDITS + 4 * (size_t)(step - 1));
+}
+
+/* Where alarm 1-4 stands in a state: its flags, then its delay count. */
+static inline size_t cook_alarm_at(unsigned alarm)
+{
+    return COOK_AT_ALARMS + 3 * (size_t)(alarm - 1);
+}
+
+/* Whether alarm 1-4 of a state is on. */
+static inline int cook_alarm_on(const uint8_t *state, unsigned alarm)
+{
+    return (state[cook_alarm_at(alarm)] & COOK_ALARM_ON) != 0;
+}
+
+/* Whether alarm 1-4 of a state has passed its standby. */
+static inline int cook_alarm_passed(const uint8_t *state, unsigned alarm)
+{
+    return (state[cook_alarm_at(alarm)] & COOK_ALARM_PASSED) != 0;
+}
+
+/* The delay count of alarm 1-4 of a state: true ticks so far. */
+static inline unsigned cook_alarm_count(const uint8_t *state, unsigned alarm)
+{
+    return cook_get16(state, cook_alarm_at(alarm) + 1);
 }
 
 #ifdef __cplusplus

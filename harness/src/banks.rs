@@ -96,6 +96,12 @@ impl Draft {
         self.patterns[..n].iter().map(|&(_, s)| s as usize).sum()
     }
 
+    /// The targets of the steps in use; that of the first step if none is.
+    pub fn targets(&self) -> Vec<i16> {
+        let used = self.used().clamp(1, self.steps.len());
+        self.steps[..used].iter().map(|step| step.target).collect()
+    }
+
     /// The step k of pattern p, both from 1.
     pub fn step(&self, p: u8, k: u8) -> Option<&Step> {
         let before: usize = self.patterns[..15.min(p as usize).checked_sub(1)?]

@@ -54,6 +54,8 @@ pub enum Call<'a> {
 #[derive(Clone, Copy)]
 pub struct Given<'a> {
     pub bank: &'a [u8],
+    /// The settings beside the bank; `Check` and `Write` take none.
+    pub config: &'a [u8],
     pub record: &'a [u8],
     pub state: &'a [u8],
 }
@@ -69,24 +71,26 @@ impl Call<'_> {
         }
     }
 
-    fn library(&self, bank: &[u8], record: &mut [u8], state: &mut [u8]) -> u64 {
+    fn library(&self, bank: &[u8], config: &[u8], record: &mut [u8], state: &mut [u8]) -> u64 {
         let outcome = match *self {
             Call::Check => cook::check(bank),
             Call::Write { patterns, steps } => cook::write(bank, patterns, steps, record),
-            Call::Make => cook::make(bank, record, state),
-            Call::Event { kind, value } => cook::raw_event(bank, record, state, kind, value),
-            Call::Run { events } => cook::run(bank, record, state, events),
+            Call::Make => cook::make(bank, config, record, state),
+            Call::Event { kind, value } => {
+                cook::raw_event(bank, config, record, state, kind, value)
+            }
+            Call::Run { events } => cook::run(bank, config, record, state, events),
         };
         outcome.word()
     }
 
-    fn model(&self, bank: &[u8], record: &mut [u8], state: &mut [u8]) -> u64 {
+    fn model(&self, bank: &[u8], config: &[u8], record: &mut [u8], state: &mut [u8]) -> u64 {
         match *self {
             Call::Check => oracle::check(bank),
             Call::Write { patterns, steps } => oracle::write(bank, patterns, steps, record),
-            Call::Make => oracle::make(bank, record, state),
-            Call::Event { kind, value } => oracle::event(bank, record, state, kind, value),
-            Call::Run { events } => oracle::run(bank, record, state, events),
+            Call::Make => oracle::make(bank, config, record, state),
+            Call::Event { kind, value } => oracle::event(bank, config, record, state, kind, value),
+            Call::Run { events } => oracle::run(bank, config, record, state, events),
         }
     }
 
@@ -107,6 +111,7 @@ impl Call<'_> {
 pub struct Comparer {
     pub tally: Tally,
     bank: Guarded,
+    config: Guarded,
     record: Guarded,
     state: Guarded,
     model_record: Vec<u8>,
@@ -128,12 +133,14 @@ impl Comparer {
     pub fn call(&mut self, call: Call, given: Given) -> Result<u64, Difference> {
         self.fill(given);
         let library = self.library(&call);
-        let model = call.model(given.bank, &mut self.model_record, &mut self.model_state);
+        let (record, state) = (&mut self.model_record, &mut self.model_state);
+        let model = call.model(given.bank, given.config, record, state);
         self.count(&call, model);
+        self.count_alarms(&call, model, given);
         let same = library == model
             && self.record.slice() == &self.model_record[..]
             && self.state.slice() == &self.model_state[..];
-        if same && self.untouched(given.bank) {
+        if same && self.untouched(given) {
             return Ok(library);
         }
         Err(self.difference(&call, given, library, model))
@@ -144,7 +151,7 @@ impl Comparer {
         self.fill(given);
         let word = self.library(&call);
         self.count(&call, word);
-        if self.untouched(given.bank) {
+        if self.untouched(given) {
             return Ok(word);
         }
         self.model_record.copy_from_slice(self.record.slice());
@@ -154,6 +161,7 @@ impl Comparer {
 
     fn fill(&mut self, given: Given) {
         self.bank.fill(given.bank);
+        self.config.fill(given.config);
         self.record.fill(given.record);
         self.state.fill(given.state);
         given.record.clone_into(&mut self.model_record);
@@ -163,14 +171,17 @@ impl Comparer {
     fn library(&mut self, call: &Call) -> u64 {
         call.library(
             self.bank.slice(),
+            self.config.slice(),
             self.record.slice_mut(),
             self.state.slice_mut(),
         )
     }
 
-    fn untouched(&self, bank: &[u8]) -> bool {
-        self.bank.slice() == bank
+    fn untouched(&self, given: Given) -> bool {
+        self.bank.slice() == given.bank
+            && self.config.slice() == given.config
             && self.bank.intact()
+            && self.config.intact()
             && self.record.intact()
             && self.state.intact()
     }
@@ -186,9 +197,20 @@ impl Comparer {
         *self.tally.answers.entry(word & 0xff).or_default() += 1;
     }
 
+    fn count_alarms(&mut self, call: &Call, word: u64, given: Given) {
+        let alarms = &mut self.tally.alarms;
+        match call {
+            Call::Check | Call::Write { .. } => (),
+            _ if word & 0xff != 0 => alarms.refused(word, given),
+            Call::Event { kind, .. } => alarms.event(*kind, word, given, &self.model_state),
+            _ => (),
+        }
+    }
+
     fn difference(&self, call: &Call, given: Given, library: u64, model: u64) -> Difference {
         let report = Difference::new(call.name())
             .bytes("bank", given.bank)
+            .bytes("config", given.config)
             .bytes("record", given.record)
             .bytes("state", given.state);
         let mut report = call
@@ -199,6 +221,7 @@ impl Comparer {
             .sides("state", self.state.slice(), &self.model_state);
         let guards = [
             ("bank", &self.bank),
+            ("config", &self.config),
             ("record", &self.record),
             ("state", &self.state),
         ];
@@ -209,6 +232,9 @@ impl Comparer {
         }
         if self.bank.slice() != given.bank {
             report = report.bytes("bank changed to", self.bank.slice());
+        }
+        if self.config.slice() != given.config {
+            report = report.bytes("config changed to", self.config.slice());
         }
         report
     }

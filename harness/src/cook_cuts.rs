@@ -1,7 +1,8 @@
-//! A fixed cook with waits and two passes, cut after every second and every key.
+//! A fixed cook with waits, two passes and alarms, cut after every second and every key.
 
-use model::Settings;
+use model::{AlarmSetting, Config, Settings};
 
+use crate::alarms::{between, HOLD, STANDBY};
 use crate::banks;
 use crate::calls::Comparer;
 use crate::events::{
@@ -10,7 +11,9 @@ use crate::events::{
 };
 use crate::held::Held;
 use crate::lists;
+use crate::oracle;
 use crate::report::{Compared, Difference};
+use crate::setup::Setup;
 
 /// Events of the cook that follow a return.
 const TAIL: usize = 130;
@@ -37,7 +40,25 @@ const KEYS: [(usize, u32, i32); 16] = [
     (770, START, 0),
 ];
 
-fn bank(outage: u8) -> Vec<u8> {
+/// The room is hot, with a delay of more ticks than lie between two saves; it is ahead of the set value, held; it lags
+/// behind the set value; it is near the target of the last steps.
+const ALARMS: [AlarmSetting; 4] = [
+    AlarmSetting {
+        sensitivity: 15,
+        ..between(6, 0, 400, 61, 0)
+    },
+    between(2, 0, 9, 2, HOLD),
+    AlarmSetting {
+        sensitivity: 2,
+        ..between(3, -5, 0, 3, STANDBY)
+    },
+    AlarmSetting {
+        sensitivity: 20,
+        ..between(8, 290, 310, 5, STANDBY)
+    },
+];
+
+fn setup(outage: u8) -> Setup {
     let settings = Settings {
         n: 2,
         start: 0,
@@ -60,12 +81,13 @@ fn bank(outage: u8) -> Vec<u8> {
         (300, 1, 3),
         (300, 0, 4),
     ];
-    banks::fixed(settings, &[(1, 1), (2, 5)], &steps, [1, 2, 5, 4]).bank()
+    let draft = banks::fixed(settings, &[(1, 1), (2, 5)], &steps, [1, 2, 5, 4]);
+    Setup::new(draft.bank(), Config { alarms: ALARMS })
 }
 
 /// The cook: its events, and what each leaves, making's first.
 struct Cook {
-    bank: Vec<u8>,
+    setup: Setup,
     list: Vec<Raw>,
     helds: Vec<Held>,
     /// The room's temperature before each event.
@@ -74,10 +96,10 @@ struct Cook {
 
 impl Cook {
     fn new(comparer: &mut Comparer, outage: u8) -> Result<Cook, Difference> {
-        let bank = bank(outage);
-        let helds = vec![Held::made(comparer, &bank)?];
+        let setup = setup(outage);
+        let helds = vec![Held::made(comparer, &setup)?];
         let mut cook = Cook {
-            bank,
+            setup,
             list: Vec::new(),
             helds,
             room: vec![200],
@@ -97,7 +119,7 @@ impl Cook {
     }
 
     fn give(&mut self, comparer: &mut Comparer, event: Raw) -> Compared {
-        let next = self.last().after(comparer, &self.bank, event)?;
+        let next = self.last().after(comparer, &self.setup, event)?;
         let room = self.room[self.room.len() - 1];
         let set_value = i32::from((next.word >> 32) as i16);
         let warmer = if set_value == 0 {
@@ -124,11 +146,11 @@ impl Cook {
         let mut list = self.list[..number].to_vec();
         let mut held = self.helds[number].clone();
         let mut give = |comparer: &mut Comparer, event: Raw, compare: bool| -> Compared {
-            held = held.after(comparer, &self.bank, event)?;
+            held = held.after(comparer, &self.setup, event)?;
             list.push(event);
             if compare {
-                lists::same_by_replay(comparer, &held, &self.bank, &list)?;
-                lists::same_by_run(comparer, &held, &self.bank, &list)?;
+                lists::same_by_replay(comparer, &held, &self.setup, &list)?;
+                lists::same_by_run(comparer, &held, &self.setup, &list)?;
             }
             Ok(())
         };
@@ -149,12 +171,21 @@ impl Cook {
     }
 }
 
-/// Whether the cook shows what it is for: waits, a second pass, an end.
+/// Whether an alarm, from 0, goes on, stays on over a save, and goes off again.
+fn sounds(cook: &Cook, alarm: usize) -> bool {
+    let on = |state: &[u8]| oracle::alarms_of(state)[alarm].flags & 1 == 1;
+    let mut pairs = cook.helds.windows(2);
+    pairs.any(|pair| !on(&pair[0].state) && on(&pair[1].state))
+        && pairs.any(|pair| on(&pair[1].state) && pair[0].record != pair[1].record)
+        && pairs.any(|pair| on(&pair[0].state) && !on(&pair[1].state))
+}
+
+/// Whether the cook shows what it is for: waits, a second pass, an end, alarms.
 fn complete(cook: &Cook) -> bool {
     let waits = cook.helds.iter().any(|held| held.state[10..14] != [0; 4]);
     let second = cook.helds.iter().any(|held| held.state[4] == 2);
     let end = cook.helds.iter().any(|held| held.state[1] == 3);
-    waits && second && end
+    waits && second && end && (0..4).all(|alarm| sounds(cook, alarm))
 }
 
 /// Cuts after every event of the cook, with every outage choice.
@@ -163,7 +194,7 @@ pub fn compare(comparer: &mut Comparer) -> Compared {
         let cook = Cook::new(comparer, outage)?;
         assert!(
             complete(&cook),
-            "the fixed cook has waits, two passes and an end"
+            "the fixed cook has waits, two passes, an end and alarms"
         );
         for number in 0..=cook.list.len() {
             let room = cook.room[number];

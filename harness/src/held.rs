@@ -1,9 +1,10 @@
 //! What an event leaves, and the next event on it.
 
-use crate::calls::{Call, Comparer, Given};
+use crate::calls::{Call, Comparer};
 use crate::events::{self, Raw};
 use crate::oracle::{RECORD, STATE};
 use crate::report::Difference;
+use crate::setup::Setup;
 
 /// What an event leaves: its answer, the state and the record.
 #[derive(Clone)]
@@ -27,14 +28,10 @@ impl Held {
     }
 
     /// What making leaves.
-    pub fn made(comparer: &mut Comparer, bank: &[u8]) -> Result<Held, Difference> {
-        let given = Given {
-            bank,
-            record: &[0xee; RECORD],
-            state: &[0xdd; STATE],
-        };
+    pub fn made(comparer: &mut Comparer, setup: &Setup) -> Result<Held, Difference> {
+        let given = setup.given(&[0xee; RECORD], &[0xdd; STATE]);
         let word = comparer.call(Call::Make, given)?;
-        assert_eq!(word, 0, "a list runs over an accepted bank");
+        assert_eq!(word, 0, "a list runs over accepted settings");
         Ok(Held::after_call(comparer, word))
     }
 
@@ -42,14 +39,10 @@ impl Held {
     pub fn after(
         &self,
         comparer: &mut Comparer,
-        bank: &[u8],
+        setup: &Setup,
         (kind, value): Raw,
     ) -> Result<Held, Difference> {
-        let given = Given {
-            bank,
-            record: &self.record,
-            state: &self.state,
-        };
+        let given = setup.given(&self.record, &self.state);
         let word = comparer.call(Call::Event { kind, value }, given)?;
         let next = Held::after_call(comparer, word);
         self.count(comparer, kind, &next);

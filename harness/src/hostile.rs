@@ -1,5 +1,6 @@
 //! Banks with something wrong, alone and in every call.
 
+use crate::alarms;
 use crate::banks;
 use crate::calls::{Call, Comparer, Given};
 use crate::damage;
@@ -8,12 +9,16 @@ use crate::random::Random;
 use crate::report::Compared;
 use crate::states;
 
+/// Temperatures of settings that know of no bank.
+const TEMPERATURES: [i16; 3] = [0, 200, 600];
+
 /// Compares the check, and now and then the other calls too.
 fn compare_bank(comparer: &mut Comparer, random: &mut Random, bank: &[u8]) -> Compared {
     comparer.call(
         Call::Check,
         Given {
             bank,
+            config: &[],
             record: &[],
             state: &[],
         },
@@ -22,8 +27,11 @@ fn compare_bank(comparer: &mut Comparer, random: &mut Random, bank: &[u8]) -> Co
         return Ok(());
     }
     let (record, state) = states::any_buffers(random);
+    let config = alarms::any(random, &TEMPERATURES);
+    let config = alarms::given(random, &config);
     let given = Given {
         bank,
+        config: &config,
         record: &record,
         state: &state,
     };

@@ -1,5 +1,7 @@
-//! Comparison of the static library with the outside model of document 01.
+//! Comparison of the static library with the outside model of documents 01 and 02.
 
+pub mod alarm_tally;
+pub mod alarms;
 pub mod banks;
 pub mod calls;
 pub mod cook_cuts;
@@ -13,6 +15,7 @@ pub mod programs;
 pub mod random;
 pub mod replay;
 pub mod report;
+pub mod setup;
 pub mod states;
 pub mod tally;
 pub mod timing;

@@ -1,9 +1,17 @@
 //! The library's five calls as the model answers them, in the library's forms.
 
-use model::{Answer, Command, Event, Measured, Reading, Refusal, Settings, State, Step};
+use model::{
+    Alarm, Answer, Command, Config, Event, Measured, Reading, Refusal, Settings, State, Step,
+};
 
-pub const RECORD: usize = 411;
-pub const STATE: usize = 422;
+pub const RECORD: usize = 423;
+pub const STATE: usize = 434;
+
+/// Offsets in a state: the alarms, u, and the measured value.
+pub const ALARMS: usize = 412;
+pub const U: usize = 424;
+pub const MEASURED: usize = 425;
+pub const VALUE: usize = 426;
 
 /// A call of no known form.
 pub const NO_FORM: u64 = 99;
@@ -40,6 +48,14 @@ fn measured_of(kind: u8, bits: u64) -> Option<Measured> {
     }
 }
 
+/// The alarms in a state's bytes.
+pub fn alarms_of(state: &[u8]) -> [Alarm; 4] {
+    std::array::from_fn(|i| Alarm {
+        flags: state[ALARMS + 3 * i],
+        count: u16::from_le_bytes(part(state, ALARMS + 3 * i + 1)),
+    })
+}
+
 /// The state in bytes; nothing if they are no state.
 pub fn state_of(bytes: &[u8]) -> Option<State> {
     if bytes.len() != STATE || bytes[0] > 1 {
@@ -54,9 +70,10 @@ pub fn state_of(bytes: &[u8]) -> Option<State> {
         e: u32::from_le_bytes(part(bytes, 6)),
         w: u32::from_le_bytes(part(bytes, 10)),
         b: i16::from_le_bytes(part(bytes, 14)),
-        u: bytes[412],
-        measured: measured_of(bytes[413], u64::from_le_bytes(part(bytes, 414)))?,
+        u: bytes[U],
+        measured: measured_of(bytes[MEASURED], u64::from_le_bytes(part(bytes, VALUE)))?,
         credits: std::array::from_fn(|i| u32::from_le_bytes(part(bytes, 16 + 4 * i))),
+        alarms: alarms_of(bytes),
     })
 }
 
@@ -70,15 +87,23 @@ pub fn state_bytes(state: &State) -> [u8; STATE] {
     for (i, credit) in state.credits.iter().enumerate() {
         bytes[16 + 4 * i..20 + 4 * i].copy_from_slice(&credit.to_le_bytes());
     }
+    for (alarm, place) in state
+        .alarms
+        .iter()
+        .zip(bytes[ALARMS..U].chunks_exact_mut(3))
+    {
+        place[0] = alarm.flags;
+        place[1..].copy_from_slice(&alarm.count.to_le_bytes());
+    }
     let (kind, bits) = match state.measured {
         Measured::NoReading => (0, 0),
         Measured::Over => (1, 0),
         Measured::Under => (2, 0),
         Measured::Value(y) => (3, y.to_bits()),
     };
-    bytes[412] = state.u;
-    bytes[413] = kind;
-    bytes[414..].copy_from_slice(&bits.to_le_bytes());
+    bytes[U] = state.u;
+    bytes[MEASURED] = kind;
+    bytes[VALUE..].copy_from_slice(&bits.to_le_bytes());
     bytes
 }
 
@@ -158,17 +183,27 @@ pub fn write(settings: &[u8], patterns: &[u8], steps: &[u8], out: &mut [u8]) -> 
 }
 
 /// Making, with the state kept in the model's own form.
-fn make_state(bank: &[u8], record: &mut [u8], length: usize) -> Result<(State, u64), u64> {
+fn make_state(
+    bank: &[u8],
+    config: &Config,
+    record: &mut [u8],
+    length: usize,
+) -> Result<(State, u64), u64> {
     model::check(bank).map_err(|refusal| refusal_word(&refusal))?;
     if length != STATE {
         return Err(NO_STATE);
     }
-    let (state, answer) = model::make(bank, record).map_err(|refusal| refusal_word(&refusal))?;
-    Ok((state, answer_word(&answer)))
+    match model::make(bank, config, record) {
+        Ok((state, answer)) => Ok((state, answer_word(&answer))),
+        Err(refusal) => Err(refusal_word(&refusal)),
+    }
 }
 
-pub fn make(bank: &[u8], record: &mut [u8], state: &mut [u8]) -> u64 {
-    match make_state(bank, record, state.len()) {
+pub fn make(bank: &[u8], config: &[u8], record: &mut [u8], state: &mut [u8]) -> u64 {
+    let Some(config) = model::config_from(config) else {
+        return NO_FORM;
+    };
+    match make_state(bank, &config, record, state.len()) {
         Err(word) => word,
         Ok((made, word)) => {
             state.copy_from_slice(&state_bytes(&made));
@@ -177,8 +212,15 @@ pub fn make(bank: &[u8], record: &mut [u8], state: &mut [u8]) -> u64 {
     }
 }
 
-pub fn event(bank: &[u8], record: &mut [u8], state: &mut [u8], kind: u32, value: i32) -> u64 {
-    let Some(event) = event_of(kind, value) else {
+pub fn event(
+    bank: &[u8],
+    config: &[u8],
+    record: &mut [u8],
+    state: &mut [u8],
+    kind: u32,
+    value: i32,
+) -> u64 {
+    let (Some(event), Some(config)) = (event_of(kind, value), model::config_from(config)) else {
         return NO_FORM;
     };
     if let Err(refusal) = model::check(bank) {
@@ -187,21 +229,21 @@ pub fn event(bank: &[u8], record: &mut [u8], state: &mut [u8], kind: u32, value:
     let Some(mut held) = state_of(state) else {
         return NO_STATE;
     };
-    let answer = model::event(bank, record, &mut held, event);
+    let answer = model::event(bank, &config, record, &mut held, event);
     state.copy_from_slice(&state_bytes(&held));
     answer_word(&answer)
 }
 
-pub fn run(bank: &[u8], record: &mut [u8], state: &mut [u8], events: &[u8]) -> u64 {
-    let Some(events) = events_of(events) else {
+pub fn run(bank: &[u8], config: &[u8], record: &mut [u8], state: &mut [u8], events: &[u8]) -> u64 {
+    let (Some(events), Some(config)) = (events_of(events), model::config_from(config)) else {
         return NO_FORM;
     };
-    let (mut held, mut word) = match make_state(bank, record, state.len()) {
+    let (mut held, mut word) = match make_state(bank, &config, record, state.len()) {
         Err(word) => return word,
         Ok(made) => made,
     };
     for event in events {
-        word = answer_word(&model::event(bank, record, &mut held, event));
+        word = answer_word(&model::event(bank, &config, record, &mut held, event));
     }
     state.copy_from_slice(&state_bytes(&held));
     word

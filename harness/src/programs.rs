@@ -5,6 +5,7 @@ use std::io;
 use std::path::{Path, PathBuf};
 use std::process::{Command, Stdio};
 
+use crate::alarms::CONFIG;
 use crate::banks::{self, Draft};
 use crate::calls::Comparer;
 use crate::damage;
@@ -14,6 +15,8 @@ use crate::random::Random;
 use crate::report::{Compared, Difference};
 
 const LONG: usize = 100_000;
+/// The programs' settings beside the bank: four alarms of kind 0.
+const NO_ALARMS: [u8; CONFIG] = [0; CONFIG];
 
 /// What a program prints for a bank and its input.
 type Prints = fn(&[u8], &[u8]) -> Vec<u8>;
@@ -228,7 +231,7 @@ fn wrong_line(random: &mut Random, right: Vec<u8>) -> Vec<u8> {
 fn lines(random: &mut Random, draft: &Draft, count: usize) -> Vec<u8> {
     let (mut record, mut state) = ([0; RECORD], [0; STATE]);
     let bank = draft.bank();
-    oracle::make(&bank, &mut record, &mut state);
+    oracle::make(&bank, &NO_ALARMS, &mut record, &mut state);
     let (mut input, mut written) = (Vec::new(), 0);
     while written < count {
         for (kind, value) in events::burst(random, draft, &state) {
@@ -240,7 +243,7 @@ fn lines(random: &mut Random, draft: &Draft, count: usize) -> Vec<u8> {
             input.extend(right);
             input.push(b'\n');
             written += 1;
-            oracle::event(&bank, &mut record, &mut state, kind, value);
+            oracle::event(&bank, &NO_ALARMS, &mut record, &mut state, kind, value);
         }
     }
     input

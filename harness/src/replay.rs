@@ -1,11 +1,12 @@
 //! Demand 3: what a list leaves, beside the model's replay machine.
 
-use model::Left;
+use model::{Config, Left};
 
 use crate::events::{list_bytes, Raw, CUT, RETURN};
 use crate::held::Held;
 use crate::oracle::{self, RECORD, STATE};
 use crate::report::{Compared, Difference};
+use crate::setup::Setup;
 
 const POWER_OFF: u64 = 23;
 const NO_READING: u64 = 25;
@@ -46,20 +47,21 @@ fn answer_off(list: &[Raw]) -> u64 {
 }
 
 /// The record of the last save.
-fn record_due(bank: &[u8], left: &[Left]) -> [u8; RECORD] {
-    let saves = model::saves(bank, left);
+fn record_due(bank: &[u8], config: &Config, left: &[Left]) -> [u8; RECORD] {
+    let saves = model::saves(bank, config, left);
     let saved = saves
         .iter()
         .rposition(|&saves| saves)
         .map_or(0, |last| last + 1);
-    model::record_of(&model::replay(bank, &left[..saved]).0)
+    model::record_of(&model::replay(bank, config, &left[..saved]).0)
 }
 
-fn due(bank: &[u8], list: &[Raw]) -> Due {
+fn due(setup: &Setup, list: &[Raw]) -> Due {
+    let (bank, config) = (&setup.bank[..], &setup.config);
     let events = oracle::events_of(&list_bytes(list)).expect("lists hold known kinds");
-    let (left, power) = model::what_is_left(bank, &events);
+    let (left, power) = model::what_is_left(bank, config, &events);
     assert_eq!(power, power_after(list), "the model's power after the list");
-    let record = record_due(bank, &left);
+    let record = record_due(bank, config, &left);
     if !power {
         return Due {
             word: answer_off(list),
@@ -68,19 +70,19 @@ fn due(bank: &[u8], list: &[Raw]) -> Due {
             credits: [0; 99],
         };
     }
-    let (state, answer) = model::replay(bank, &left);
+    let (state, answer) = model::replay(bank, config, &left);
     let held = |credit: u64| credit.min(u32::MAX.into()) as u32;
     Due {
         word: oracle::answer_word(&answer),
         state: oracle::state_bytes(&state),
         record,
-        credits: model::credits_due(bank, &left).map(held),
+        credits: model::credits_due(bank, config, &left).map(held),
     }
 }
 
 /// Compares what a list left with the replay machine's word on it.
-pub fn compare(bank: &[u8], list: &[Raw], held: &Held) -> Compared {
-    let due = due(bank, list);
+pub fn compare(setup: &Setup, list: &[Raw], held: &Held) -> Compared {
+    let due = due(setup, list);
     let credits = held.credits();
     let same = held.word == due.word
         && held.state == due.state
@@ -89,8 +91,9 @@ pub fn compare(bank: &[u8], list: &[Raw], held: &Held) -> Compared {
     if same {
         return Ok(());
     }
-    Err(Difference::new("a list, against the replay machine")
-        .bytes("bank", bank)
+    let report = Difference::new("a list, against the replay machine");
+    Err(setup
+        .describe(report)
         .bytes("events", &list_bytes(list))
         .word("last answer, library", held.word)
         .word("last answer, replay machine", due.word)

@@ -1,12 +1,13 @@
 //! States and records: sound and unsound in each way, and single events on them.
 
-use model::{Measured, Settings, State};
+use model::{Config, Measured, Settings, State};
 
+use crate::alarms;
 use crate::banks::{self, Draft, ENDLESS};
 use crate::calls::{Call, Comparer, Given};
 use crate::damage;
 use crate::events;
-use crate::oracle::{self, RECORD, STATE};
+use crate::oracle::{self, ALARMS, MEASURED, RECORD, STATE, VALUE};
 use crate::random::Random;
 use crate::report::{Compared, Difference};
 
@@ -111,6 +112,7 @@ fn stopped(random: &mut Random, p: u8) -> State {
         u: random.pick(&[0, 1, 30, 58, 59, 59]),
         measured: measured(random, 0),
         credits: credits(random),
+        alarms: [alarms::CLEAR; 4],
     }
 }
 
@@ -121,8 +123,8 @@ fn base(random: &mut Random, draft: &Draft, target: i16) -> i16 {
     random.pick(&[target, sll, slh, -19_999, 29_999, any, any, any, any])
 }
 
-/// A state with power on whose position is readable.
-pub fn sound(random: &mut Random, draft: &Draft) -> State {
+/// A state with power on and clear alarms whose position is readable.
+fn placed(random: &mut Random, draft: &Draft) -> State {
     let p = 1 + random.below(draft.settings.n as usize) as u8;
     let (runs, s) = draft.patterns[p as usize - 1];
     let mut state = stopped(random, p);
@@ -148,14 +150,21 @@ pub fn sound(random: &mut Random, draft: &Draft) -> State {
     state
 }
 
+/// A state with power on that is sound.
+pub fn sound(random: &mut Random, draft: &Draft, config: &Config) -> State {
+    let mut state = placed(random, draft);
+    state.alarms = alarms::sound(random, config, state.mode);
+    state
+}
+
 /// The floats next to the ends of the temperature range.
 const JUST_OUT: [f64; 2] = [29_999.000_000_000_004, -19_999.000_000_000_004];
 
 /// A state with one thing moved out of its place.
-fn unsound(random: &mut Random, draft: &Draft) -> State {
-    let mut state = sound(random, draft);
+fn unsound(random: &mut Random, draft: &Draft, config: &Config) -> State {
+    let mut state = sound(random, draft, config);
     let (runs, s) = draft.patterns[state.p as usize - 1];
-    match random.below(16) {
+    match random.below(22) {
         0 => state.mode = random.pick(&[4, 5, 128, 255]),
         1 => state.mode = random.below(4) as u8,
         2 => state.p = random.pick(&[0, draft.settings.n + 1, 16, 255]),
@@ -174,7 +183,8 @@ fn unsound(random: &mut Random, draft: &Draft) -> State {
         12 => state.measured = Measured::Value(random.pick(&[f64::INFINITY, f64::NEG_INFINITY])),
         13 => state.measured = Measured::Value(random.pick(&JUST_OUT)),
         14 => state.p = 1 + random.below(15) as u8,
-        _ => state.k = 1 + random.below(99) as u8,
+        15 => state.k = 1 + random.below(99) as u8,
+        _ => alarms::disturb(random, config, &mut state.alarms),
     }
     state
 }
@@ -183,12 +193,12 @@ fn unsound(random: &mut Random, draft: &Draft) -> State {
 fn powered_off(random: &mut Random) -> Vec<u8> {
     let mut bytes = random.bytes(STATE);
     bytes[0] = 0;
-    bytes[413] = random.below(4) as u8;
-    let value = match bytes[413] {
+    bytes[MEASURED] = random.below(4) as u8;
+    let value = match bytes[MEASURED] {
         3 => random.pick(&[f64::INFINITY, f64::NEG_INFINITY, -0.0, 1e9, 12.5]),
         _ => 0.0,
     };
-    bytes[414..].copy_from_slice(&value.to_bits().to_le_bytes());
+    bytes[VALUE..].copy_from_slice(&value.to_bits().to_le_bytes());
     bytes
 }
 
@@ -201,24 +211,24 @@ fn no_state(random: &mut Random, mut bytes: Vec<u8>) -> Vec<u8> {
         0xffff_ffff_ffff_ffff,
     ];
     match random.below(5) {
-        0 => bytes.resize(random.pick(&[0, 1, 411, 421, 423, 500]), 0),
+        0 => bytes.resize(random.pick(&[0, 1, 422, 423, 433, 435, 500]), 0),
         1 => bytes[0] = random.pick(&[2, 3, 128, 255]),
-        2 => bytes[413] = random.pick(&[4, 5, 128, 255]),
+        2 => bytes[MEASURED] = random.pick(&[4, 5, 128, 255]),
         3 => {
-            bytes[413] = 3;
-            bytes[414..].copy_from_slice(&random.pick(&NANS).to_le_bytes());
+            bytes[MEASURED] = 3;
+            bytes[VALUE..].copy_from_slice(&random.pick(&NANS).to_le_bytes());
         }
         _ => {
-            bytes[413] = random.below(3) as u8;
-            bytes[414..].fill(0);
-            bytes[414 + random.below(8)] = random.pick(&[1, 128, 255]);
+            bytes[MEASURED] = random.below(3) as u8;
+            bytes[VALUE..].fill(0);
+            bytes[VALUE + random.below(8)] = random.pick(&[1, 128, 255]);
         }
     }
     bytes
 }
 
 /// Any bytes for a state over a draft's bank.
-pub fn any_state(random: &mut Random, draft: &Draft) -> Vec<u8> {
+pub fn any_state(random: &mut Random, draft: &Draft, config: &Config) -> Vec<u8> {
     match random.below(20) {
         0 => random.bytes(STATE),
         1 => vec![0; STATE],
@@ -228,27 +238,28 @@ pub fn any_state(random: &mut Random, draft: &Draft) -> Vec<u8> {
             no_state(random, bytes)
         }
         5 | 6 => {
-            let bytes = oracle::state_bytes(&sound(random, draft)).to_vec();
+            let bytes = oracle::state_bytes(&sound(random, draft, config)).to_vec();
             no_state(random, bytes)
         }
-        7..=11 => oracle::state_bytes(&unsound(random, draft)).to_vec(),
-        _ => oracle::state_bytes(&sound(random, draft)).to_vec(),
+        7..=11 => oracle::state_bytes(&unsound(random, draft, config)).to_vec(),
+        _ => oracle::state_bytes(&sound(random, draft, config)).to_vec(),
     }
 }
 
 /// Any bytes for a record: readable, nearly so, random, of any length.
-pub fn any_record(random: &mut Random, draft: &Draft) -> Vec<u8> {
+pub fn any_record(random: &mut Random, draft: &Draft, config: &Config) -> Vec<u8> {
     let state = if random.once_in(3) {
-        unsound(random, draft)
+        unsound(random, draft, config)
     } else {
-        sound(random, draft)
+        sound(random, draft, config)
     };
     let mut record = oracle::state_bytes(&state)[1..1 + RECORD].to_vec();
     match random.below(16) {
         0 => record = random.bytes(RECORD),
         1 => record.fill(0),
-        2 => record.resize(random.pick(&[0, 1, 15, 410, 412, 422, 1_000]), 1),
+        2 => record.resize(random.pick(&[0, 1, 15, 411, 422, 424, 434, 1_000]), 1),
         3 => record[random.below(15)] = random.byte(),
+        4 => record[ALARMS - 1 + random.below(12)] = random.pick(&[0, 1, 2, 3, 4, 5, 128, 255]),
         _ => (),
     }
     record
@@ -256,8 +267,17 @@ pub fn any_record(random: &mut Random, draft: &Draft) -> Vec<u8> {
 
 /// A record and a state that know of no bank.
 pub fn any_buffers(random: &mut Random) -> (Vec<u8>, Vec<u8>) {
-    let record = random.pick(&[RECORD, RECORD, RECORD, 0, 1, RECORD - 1, RECORD + 1, 1_000]);
-    let state = random.pick(&[STATE, STATE, STATE, 0, 1, STATE - 1, STATE + 1, 1_000]);
+    let record = random.pick(&[
+        RECORD,
+        RECORD,
+        RECORD,
+        0,
+        411,
+        RECORD - 1,
+        RECORD + 1,
+        1_000,
+    ]);
+    let state = random.pick(&[STATE, STATE, STATE, 0, 422, STATE - 1, STATE + 1, 1_000]);
     let mut held = random.bytes(state);
     if state == STATE && random.once_in(2) {
         held = powered_off(random);
@@ -277,12 +297,18 @@ fn event(random: &mut Random, draft: &Draft, state: &[u8]) -> events::Raw {
     events::burst(random, draft, state)[0]
 }
 
+fn same_alarms(view: &cook::State, due: &State) -> bool {
+    let seen = |alarm: &cook::Alarm| (alarm.is_on(), alarm.has_passed(), alarm.count);
+    let held = |alarm: &model::Alarm| (alarm.flags & 1 == 1, alarm.flags & 2 == 2, alarm.count);
+    view.alarms.iter().map(seen).eq(due.alarms.iter().map(held))
+}
+
 /// The wrapper's view of a state holds what the bytes hold, or nothing.
 fn viewed(bytes: &[u8]) -> Compared {
     let view = cook::State::from_bytes(bytes);
     let due = oracle::state_of(bytes);
     let same = match (&view, &due) {
-        (Some(view), Some(_)) => view.to_bytes() == bytes,
+        (Some(view), Some(due)) => view.to_bytes() == bytes && same_alarms(view, due),
         (None, None) => true,
         _ => false,
     };
@@ -297,11 +323,22 @@ fn viewed(bytes: &[u8]) -> Compared {
 
 /// Single events over many states and records of one bank.
 fn over_bank(comparer: &mut Comparer, random: &mut Random, draft: &Draft, bank: &[u8]) -> Compared {
+    let targets = draft.targets();
+    let mut config = alarms::any(random, &targets);
     for _ in 0..40 {
-        let (state, record) = (any_state(random, draft), any_record(random, draft));
+        if random.once_in(4) {
+            config = alarms::any(random, &targets);
+            alarms::viewed(&config)?;
+        }
+        let (state, record) = (
+            any_state(random, draft, &config),
+            any_record(random, draft, &config),
+        );
         viewed(&state)?;
+        let config = alarms::given(random, &config);
         let given = Given {
             bank,
+            config: &config,
             record: &record,
             state: &state,
         };

@@ -3,6 +3,8 @@
 use std::collections::BTreeMap;
 use std::fmt;
 
+use crate::alarm_tally::AlarmTally;
+
 #[derive(Clone, Debug, Default)]
 pub struct Tally {
     pub checks: u64,
@@ -23,6 +25,7 @@ pub struct Tally {
     pub cook_cuts: u64,
     pub inputs: u64,
     pub printed: u64,
+    pub alarms: AlarmTally,
     /// Results by number.
     pub answers: BTreeMap<u64, u64>,
 }
@@ -55,6 +58,7 @@ impl Tally {
         for (count, more) in self.counts().into_iter().zip(other.counts()) {
             *count += *more;
         }
+        self.alarms.add(other.alarms);
         for (number, more) in other.answers {
             *self.answers.entry(number).or_default() += more;
         }
@@ -91,6 +95,7 @@ impl fmt::Display for Tally {
                 writeln!(out, "{name:<34}{count:>12}")?;
             }
         }
+        write!(out, "{}", self.alarms)?;
         if self.answers.is_empty() {
             return Ok(());
         }

@@ -40,7 +40,7 @@ pub fn compare(
     let (library, library_least) = median_and_least(libraries, events);
     let (model, model_least) = median_and_least(models, events);
     let (ratio, least) = (model / library, model_least / library_least);
-    println!("{name:<36}{library:>11.1}{model:>11.1}{ratio:>9.2}{least:>9.2}");
+    println!("{name:<42}{library:>11.1}{model:>11.1}{ratio:>9.2}{least:>9.2}");
     Ok(())
 }
 
@@ -48,7 +48,7 @@ pub fn compare(
 /// the least times, which other work on the machine disturbs less.
 pub fn heading() {
     println!(
-        "{:<36}{:>11}{:>11}{:>9}{:>9}",
+        "{:<42}{:>11}{:>11}{:>9}{:>9}",
         "ns for one", "library", "model", "ratio", "least"
     );
 }

@@ -1,7 +1,8 @@
 //! Every list up to some length of a small alphabet, walked as a tree.
 
-use model::Settings;
+use model::{AlarmSetting, Config, Settings};
 
+use crate::alarms::{self, between, HOLD, STANDBY};
 use crate::banks;
 use crate::calls::Comparer;
 use crate::events::{
@@ -12,10 +13,11 @@ use crate::held::Held;
 use crate::lists;
 use crate::random::Random;
 use crate::report::Compared;
+use crate::setup::Setup;
 
-/// A tree of lists over one bank.
+/// A tree of lists over one bank and its settings.
 struct Tree<'a> {
-    bank: &'a [u8],
+    setup: &'a Setup,
     alphabet: &'a [Raw],
     list: Vec<Raw>,
 }
@@ -24,10 +26,10 @@ impl Tree<'_> {
     /// Every list that goes on from here by up to `depth` events.
     fn walk(&mut self, comparer: &mut Comparer, held: &Held, depth: usize) -> Compared {
         for &event in self.alphabet {
-            let next = held.after(comparer, self.bank, event)?;
+            let next = held.after(comparer, self.setup, event)?;
             self.list.push(event);
-            lists::same_by_run(comparer, &next, self.bank, &self.list)?;
-            lists::same_by_replay(comparer, &next, self.bank, &self.list)?;
+            lists::same_by_run(comparer, &next, self.setup, &self.list)?;
+            lists::same_by_replay(comparer, &next, self.setup, &self.list)?;
             comparer.tally.walked += 1;
             if depth > 1 {
                 self.walk(comparer, &next, depth - 1)?;
@@ -38,24 +40,25 @@ impl Tree<'_> {
     }
 }
 
-fn walk(comparer: &mut Comparer, bank: &[u8], alphabet: &[Raw], depth: usize) -> Compared {
-    let made = Held::made(comparer, bank)?;
-    lists::same_by_run(comparer, &made, bank, &[])?;
-    lists::same_by_replay(comparer, &made, bank, &[])?;
+fn walk(comparer: &mut Comparer, setup: &Setup, alphabet: &[Raw], depth: usize) -> Compared {
+    let made = Held::made(comparer, setup)?;
+    lists::same_by_run(comparer, &made, setup, &[])?;
+    lists::same_by_replay(comparer, &made, setup, &[])?;
     Tree {
-        bank,
+        setup,
         alphabet,
         list: Vec::new(),
     }
     .walk(comparer, &made, depth)
 }
 
-/// A small bank of one pattern, and the alphabet of its lists.
+/// A small bank of one pattern, its alarms, and the alphabet of its lists.
 struct Small {
     start: u8,
     outage: u8,
     runs: u8,
     steps: [(i16, u16, u8); 2],
+    alarms: [AlarmSetting; 4],
     alphabet: [Raw; 10],
 }
 
@@ -65,6 +68,12 @@ const PASSES: Small = Small {
     outage: 2,
     runs: 2,
     steps: [(600, 0, 0), (300, 0, 0)],
+    alarms: [
+        between(6, 0, 600, 1, 0),
+        between(2, 0, 300, 0, HOLD),
+        between(4, -10, 10, 0, STANDBY),
+        between(1, -300, 300, 2, HOLD | STANDBY),
+    ],
     alphabet: [
         (TICK, 600),
         (START, 0),
@@ -85,6 +94,18 @@ const OUTAGES: Small = Small {
     outage: 2,
     runs: 0,
     steps: [(400, 0, 1), (400, 6_000, 0)],
+    alarms: [
+        AlarmSetting {
+            sensitivity: 20,
+            ..between(5, 340, 390, 0, 0)
+        },
+        between(7, 365, 400, 1, HOLD),
+        between(8, 390, 410, 0, STANDBY),
+        AlarmSetting {
+            sensitivity: 5,
+            ..between(3, -30, 0, 0, STANDBY)
+        },
+    ],
     alphabet: [
         (TICK, 400),
         (TICK, 330),
@@ -105,6 +126,15 @@ const TIMES: Small = Small {
     outage: 1,
     runs: 1,
     steps: [(600, 2, 2), (0, 0, 2)],
+    alarms: [
+        between(2, 0, 300, 1, 0),
+        between(3, -9, 0, 0, STANDBY),
+        AlarmSetting {
+            sensitivity: 9_999,
+            ..between(4, 0, 1, 0, 0)
+        },
+        between(0, 0, 0, 0, STANDBY),
+    ],
     alphabet: [
         (TICK, 200),
         (TICK, 590),
@@ -120,7 +150,7 @@ const TIMES: Small = Small {
 };
 
 impl Small {
-    fn bank(&self) -> Vec<u8> {
+    fn setup(&self) -> Setup {
         let settings = Settings {
             n: 1,
             start: self.start,
@@ -135,7 +165,9 @@ impl Small {
             on: [0, 1, 0, 0],
             off: [1, 2, 0, 0],
         };
-        banks::fixed(settings, &[(self.runs, 2)], &self.steps, [1, 2, 5, 0]).bank()
+        let draft = banks::fixed(settings, &[(self.runs, 2)], &self.steps, [1, 2, 5, 0]);
+        let alarms = self.alarms;
+        Setup::new(draft.bank(), Config { alarms })
     }
 }
 
@@ -143,7 +175,7 @@ impl Small {
 pub fn every_list(comparer: &mut Comparer, depth: usize) -> Compared {
     [PASSES, OUTAGES, TIMES]
         .iter()
-        .try_for_each(|small| walk(comparer, &small.bank(), &small.alphabet, depth))
+        .try_for_each(|small| walk(comparer, &small.setup(), &small.alphabet, depth))
 }
 
 /// Every short list of a random alphabet over a random bank.
@@ -160,5 +192,11 @@ pub fn random_tree(comparer: &mut Comparer, random: &mut Random, depth: usize) -
         0 => events::reading(random, TICK, target),
         _ => events::any_of_form(random),
     }));
-    walk(comparer, &draft.bank(), &alphabet, depth)
+    let config = alarms::config(random, &draft.targets());
+    walk(
+        comparer,
+        &Setup::new(draft.bank(), config),
+        &alphabet,
+        depth,
+    )
 }

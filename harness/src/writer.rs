@@ -31,6 +31,7 @@ impl Inputs {
             call,
             Given {
                 bank: &self.settings,
+                config: &[],
                 record: out,
                 state: &[],
             },
@@ -83,6 +84,7 @@ fn reads_back(comparer: &mut Comparer, draft: &Draft, length: usize) -> Compared
         Call::Check,
         Given {
             bank: &bank,
+            config: &[],
             record: &[],
             state: &[],
         },

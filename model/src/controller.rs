@@ -2,13 +2,14 @@
 
 use crate::bank::Bank;
 use crate::machine;
-use crate::record::{is_sound, position_is_readable, read_record, write_record, RECORD_BYTES};
-use crate::types::{Answer, Event, Reading, Refusal, State};
+use crate::record::{is_readable, is_sound, read_record, write_record, RECORD_BYTES};
+use crate::types::{Answer, Config, Event, Reading, Refusal, State};
 
 /// "making the controller saves before any event"
-pub fn make(bank: &[u8], record: &mut [u8]) -> Result<(State, Answer), Refusal> {
+pub fn make(bank: &[u8], config: &Config, record: &mut [u8]) -> Result<(State, Answer), Refusal> {
     let bank = Bank::open(bank)?;
     let record = record_buffer(record)?;
+    config.check()?;
     let mut state = machine::fresh();
     save(&mut state, record);
     Ok((state, machine::answer(&bank, &state)))
@@ -16,29 +17,38 @@ pub fn make(bank: &[u8], record: &mut [u8]) -> Result<(State, Answer), Refusal> 
 
 /// "Each event takes the controller's state and gives back the next." A
 /// refusal leaves state and record as they were.
-pub fn event(bank: &[u8], record: &mut [u8], state: &mut State, event: Event) -> Answer {
-    accept(bank, record, state, event).unwrap_or_else(Answer::Refused)
+pub fn event(
+    bank: &[u8],
+    config: &Config,
+    record: &mut [u8],
+    state: &mut State,
+    event: Event,
+) -> Answer {
+    accept(bank, config, record, state, event).unwrap_or_else(Answer::Refused)
 }
 
-/// The refusals in the order of their numbers, then the event itself.
+/// The refusals in the order of their numbers, but 41 "after 22"; then the
+/// event itself.
 fn accept(
     bank: &[u8],
+    config: &Config,
     record: &mut [u8],
     state: &mut State,
     event: Event,
 ) -> Result<Answer, Refusal> {
     let bank = Bank::open(bank)?;
-    if !is_sound(&bank, state) {
+    if !is_sound(&bank, config, state) {
         return Err(Refusal::plain(21));
     }
     let record = record_buffer(record)?;
+    config.check()?;
     let saves = match event {
         Event::Return(reading) => {
-            *state = returned(&bank, record, state.power, reading)?;
+            *state = returned(&bank, config, record, state.power, reading)?;
             true
         }
         _ if !state.power => return Err(Refusal::plain(23)),
-        Event::Tick(reading) => machine::tick(&bank, state, reading)?,
+        Event::Tick(reading) => machine::tick(&bank, config, state, reading)?,
         Event::Command(command) => {
             machine::command(&bank, state, command)?;
             true
@@ -54,7 +64,8 @@ fn accept(
     Ok(machine::answer(&bank, state))
 }
 
-/// Refusal 22: "record buffer not 411 bytes".
+/// Refusal 22: "record buffer not 411 bytes", which "follows" the record's
+/// growth.
 fn record_buffer(record: &mut [u8]) -> Result<&mut [u8; RECORD_BYTES], Refusal> {
     record.try_into().map_err(|_| Refusal::plain(22))
 }
@@ -69,6 +80,7 @@ fn save(state: &mut State, record: &mut [u8; RECORD_BYTES]) {
 /// "Return brings back the record, takes its reading as a first reading".
 fn returned(
     bank: &Bank,
+    config: &Config,
     record: &[u8; RECORD_BYTES],
     power: bool,
     reading: Reading,
@@ -78,7 +90,7 @@ fn returned(
     }
     machine::check_reading(reading)?;
     let mut state = read_record(record);
-    if !position_is_readable(bank, &state) {
+    if !is_readable(bank, config, &state) {
         return Err(Refusal::plain(31));
     }
     machine::after_outage(bank, &mut state, reading);

@@ -1,10 +1,12 @@
 //! A model of the cook-room program controller: "a controller over a checked
 //! bank of patterns, with a record in retained memory".
 //!
-//! The quoted words in the comments are those of the scope document.
+//! The quoted words in the comments are those of the scope document and of its
+//! change request 1, the four event alarms.
 
 #![forbid(unsafe_code)]
 
+mod alarms;
 mod bank;
 mod controller;
 mod fields;
@@ -14,9 +16,13 @@ mod replay;
 mod sheet;
 mod types;
 
+pub use alarms::{config_bytes, config_from};
 pub use bank::{check, read_back, write, Contents};
 pub use controller::{event, make};
 pub use record::{readable, record_of, sound};
 pub use replay::{credits_due, replay, saves, what_is_left, Left};
 pub use sheet::{credits, sheet};
-pub use types::{Answer, Command, Event, Measured, Reading, Refusal, Settings, State, Step};
+pub use types::{
+    Alarm, AlarmSetting, Answer, Command, Config, Event, Measured, Reading, Refusal, Settings,
+    State, Step,
+};

@@ -1,11 +1,12 @@
 //! The plain machine: what ticks, commands and the outage choices do to a
 //! sound state with power on. It knows nothing of cuts or of the record.
 
+use crate::alarms;
 use crate::bank::Bank;
 use crate::record::{ENDLESS_MOST, TICKS_TO_SAVE};
 use crate::types::{
-    Answer, Command, Measured, Reading, Refusal, State, Step, ENDED, PAUSED, RUNNING, STOPPED,
-    TEMPERATURES,
+    Alarm, Answer, Command, Config, Measured, Reading, Refusal, State, Step, ENDED, PAUSED,
+    RUNNING, STOPPED, TEMPERATURES,
 };
 
 /// "Fresh: power on, mode 0, p = k = r = 1, all else 0, no reading".
@@ -55,6 +56,11 @@ fn ramp(step: &Step, b: i16, e: u32) -> i16 {
     let way = i64::from(step.target) - i64::from(b);
     let moved = way.abs() * i64::from(e) / t;
     (i64::from(b) + way.signum() * moved) as i16
+}
+
+/// The set value of a state in mode 1 or 2.
+fn set_value(bank: &Bank, state: &State) -> i16 {
+    ramp(&current_step(bank, state), state.b, state.e)
 }
 
 /// "A time signal, modes 1 and 2: 5 is on; j from 1 to 4 is on while on minute
@@ -131,7 +137,12 @@ fn in_zone(zone: u16, target: i16, state: &State) -> bool {
 
 /// A tick, and whether it saves: it does if it "changes mode, step or pass",
 /// or if it is "the tick that makes u 60".
-pub(crate) fn tick(bank: &Bank, state: &mut State, reading: Reading) -> Result<bool, Refusal> {
+pub(crate) fn tick(
+    bank: &Bank,
+    config: &Config,
+    state: &mut State,
+    reading: Reading,
+) -> Result<bool, Refusal> {
     check_reading(reading)?;
     let before = (state.mode, state.k, state.r);
     state.measured = next_measured(state.measured, reading, bank.settings.filter);
@@ -139,7 +150,20 @@ pub(crate) fn tick(bank: &Bank, state: &mut State, reading: Reading) -> Result<b
     if state.mode == RUNNING {
         run_one_second(bank, state);
     }
+    judge_alarms(bank, config, state);
     Ok(state.u == TICKS_TO_SAVE || before != (state.mode, state.k, state.r))
+}
+
+/// "They are judged after the tick's own step, if the mode is then 1 or 2."
+/// "Alarms move only on such ticks with a filtered value."
+fn judge_alarms(bank: &Bank, config: &Config, state: &mut State) {
+    if !in_program(state) {
+        return;
+    }
+    if let Some(measured) = measured_whole_value(state.measured) {
+        let set_value = set_value(bank, state);
+        alarms::judge(config, &mut state.alarms, measured, set_value);
+    }
 }
 
 /// "In mode 1 also: credit of step k gains 1, held at 4,294,967,295."
@@ -185,7 +209,7 @@ fn next(bank: &Bank, state: &mut State) {
 
 /// "b becomes the set value, then e = w = 0"
 fn leave_step(bank: &Bank, state: &mut State) {
-    state.b = ramp(&current_step(bank, state), state.b, state.e);
+    state.b = set_value(bank, state);
     state.e = 0;
     state.w = 0;
 }
@@ -196,12 +220,14 @@ fn end(state: &mut State) {
     clear_time_and_base(state);
 }
 
-/// ""To stopped": mode 0, k = r = 1, e = w = b = 0."
+/// ""To stopped": mode 0, k = r = 1, e = w = b = 0." "A start or any move to
+/// stopped clears flags and counts."
 fn to_stopped(state: &mut State) {
     state.mode = STOPPED;
     state.k = 1;
     state.r = 1;
     clear_time_and_base(state);
+    state.alarms = [Alarm::default(); 4];
 }
 
 fn clear_time_and_base(state: &mut State) {
@@ -344,7 +370,7 @@ pub(crate) fn after_outage(bank: &Bank, state: &mut State, reading: Reading) {
 /// included) paused".
 fn stays_running(bank: &Bank, state: &State) -> bool {
     let width = bank.settings.width;
-    let set_value = ramp(&current_step(bank, state), state.b, state.e);
+    let set_value = set_value(bank, state);
     width == 0
         || measured_whole_value(state.measured)
             .is_some_and(|value| distance(value, set_value) <= u32::from(width))

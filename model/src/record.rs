@@ -1,11 +1,12 @@
 //! The record in retained memory, and when a record or a state may be used.
 
+use crate::alarms;
 use crate::bank::Bank;
 use crate::fields::{FieldReader, FieldWriter};
-use crate::types::{Measured, State, CREDITS, ENDED, STOPPED, TEMPERATURES};
+use crate::types::{Alarm, Config, Measured, State, CREDITS, ENDED, STOPPED, TEMPERATURES};
 
-/// "Record, 411 bytes"
-pub(crate) const RECORD_BYTES: usize = 411;
+/// "Record, 411 bytes", and for the alarms "12 bytes more".
+pub(crate) const RECORD_BYTES: usize = 411 + 12;
 const CREDIT_BYTES: usize = 4;
 
 /// "An endless step adds 1 to e, held at 359,999."
@@ -15,7 +16,8 @@ pub(crate) const ENDLESS_MOST: u32 = 359_999;
 pub(crate) const TICKS_TO_SAVE: u8 = 60;
 
 /// "mode, p, k (a byte each), r (16 bits), e, w (32 each), b (signed 16), 99
-/// credits"
+/// credits"; "Alarm by alarm, flags (one byte ...) and delay count (16 bits) join
+/// the record at its end"
 pub fn record_of(state: &State) -> [u8; RECORD_BYTES] {
     let mut record = [0; RECORD_BYTES];
     write_record(state, &mut record);
@@ -36,6 +38,9 @@ pub(crate) fn write_record(state: &State, record: &mut [u8; RECORD_BYTES]) {
         *place = credit.to_le_bytes();
     }
     fields.put(credits);
+    for alarm in &state.alarms {
+        alarm.write(&mut fields);
+    }
 }
 
 /// The state that a record brings back: power on, u 0, and no reading yet.
@@ -53,29 +58,31 @@ pub(crate) fn read_record(record: &[u8; RECORD_BYTES]) -> State {
         u: 0,
         measured: Measured::NoReading,
         credits: std::array::from_fn(|_| fields.u32()),
+        alarms: std::array::from_fn(|_| Alarm::read(&mut fields)),
     }
 }
 
 /// Whether the record can be brought back over an accepted bank.
-pub fn readable(bank: &[u8], record: &[u8]) -> bool {
+pub fn readable(bank: &[u8], config: &Config, record: &[u8]) -> bool {
     match (Bank::open(bank), <&[u8; RECORD_BYTES]>::try_from(record)) {
-        (Ok(bank), Ok(record)) => position_is_readable(&bank, &read_record(record)),
+        (Ok(bank), Ok(record)) => is_readable(&bank, config, &read_record(record)),
         _ => false,
     }
 }
 
 /// Whether the state may be used over an accepted bank.
-pub fn sound(bank: &[u8], state: &State) -> bool {
-    !state.power || Bank::open(bank).is_ok_and(|bank| is_sound(&bank, state))
+pub fn sound(bank: &[u8], config: &Config, state: &State) -> bool {
+    !state.power || Bank::open(bank).is_ok_and(|bank| is_sound(&bank, config, state))
 }
 
 /// "A state is sound if power is off, or if all three hold: its position is
-/// readable, u < 60, any y lies within −19,999 and 29,999."
-pub(crate) fn is_sound(bank: &Bank, state: &State) -> bool {
+/// readable, u < 60, any y lies within −19,999 and 29,999." Of the alarms: "A
+/// powered state is sound only within these bounds."
+pub(crate) fn is_sound(bank: &Bank, config: &Config, state: &State) -> bool {
     !state.power
         || (state.u < TICKS_TO_SAVE
             && measured_in_range(state.measured)
-            && position_is_readable(bank, state))
+            && is_readable(bank, config, state))
 }
 
 fn measured_in_range(measured: Measured) -> bool {
@@ -89,10 +96,15 @@ fn measured_in_range(measured: Measured) -> bool {
     }
 }
 
+/// Whether position and alarms are those of a readable record.
+pub(crate) fn is_readable(bank: &Bank, config: &Config, state: &State) -> bool {
+    position_is_readable(bank, state) && alarms::are_readable(config, state)
+}
+
 /// "It is readable exactly when mode ≤ 3, 1 ≤ p ≤ n and: mode 0 is as "to
 /// stopped" says; else 1 ≤ k ≤ s, 1 ≤ r ≤ limit, b in the temperature range;
 /// mode 3 has e = w = b = 0".
-pub(crate) fn position_is_readable(bank: &Bank, state: &State) -> bool {
+fn position_is_readable(bank: &Bank, state: &State) -> bool {
     if state.mode > ENDED || !(1..=bank.settings.n).contains(&state.p) {
         return false;
     }

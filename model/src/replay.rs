@@ -3,7 +3,7 @@
 
 use crate::bank::Bank;
 use crate::machine;
-use crate::types::{Answer, Command, Event, Reading, Refusal, State, CREDITS, RUNNING};
+use crate::types::{Answer, Command, Config, Event, Reading, Refusal, State, CREDITS, RUNNING};
 
 /// An event left of the list, "and with each return whether power was on".
 /// For any other event power was on, and the field is not looked at.
@@ -15,16 +15,19 @@ pub struct Left {
 
 struct ReplayMachine<'a> {
     bank: Bank<'a>,
+    config: &'a Config,
     state: State,
     answer: Answer,
 }
 
 impl<'a> ReplayMachine<'a> {
-    fn new(bank: &'a [u8]) -> Result<Self, Refusal> {
+    fn new(bank: &'a [u8], config: &'a Config) -> Result<Self, Refusal> {
         let bank = Bank::open(bank)?;
+        config.check()?;
         let state = machine::fresh();
         Ok(Self {
             bank,
+            config,
             state,
             answer: machine::answer(&bank, &state),
         })
@@ -37,7 +40,7 @@ impl<'a> ReplayMachine<'a> {
         let (bank, state) = (&self.bank, &mut self.state);
         let acted = match left.event {
             Event::Cut => return false,
-            Event::Tick(reading) => machine::tick(bank, state, reading),
+            Event::Tick(reading) => machine::tick(bank, self.config, state, reading),
             Event::Command(command) => machine::command(bank, state, command).map(|()| true),
             Event::Return(_) if left.power_was_on => Err(Refusal::plain(24)),
             Event::Return(reading) => power_returns(bank, state, reading).map(|()| true),
@@ -117,10 +120,12 @@ impl Building<'_> {
 }
 
 /// "What is left is built from the front, empty at first, with power on."
-/// Gives what is left, and whether power is on after the list. Over a refused
-/// bank no controller is made: nothing is left, and power is off.
-pub fn what_is_left(bank: &[u8], events: &[Event]) -> (Vec<Left>, bool) {
-    let Ok(machine) = ReplayMachine::new(bank) else {
+/// The settings beside the bank are one for the whole list, which "keeps them
+/// as it keeps its bank". Gives what is left, and whether power is on after the
+/// list. Over a refused bank, or settings out of range, no controller is made:
+/// nothing is left, and power is off.
+pub fn what_is_left(bank: &[u8], config: &Config, events: &[Event]) -> (Vec<Left>, bool) {
+    let Ok(machine) = ReplayMachine::new(bank, config) else {
         return (Vec::new(), false);
     };
     let saved_state = machine.state;
@@ -139,9 +144,9 @@ pub fn what_is_left(bank: &[u8], events: &[Event]) -> (Vec<Left>, bool) {
 }
 
 /// State and answer after the last event left, making's if nothing is left.
-/// Over a refused bank: the state of power off, and the bank's refusal.
-pub fn replay(bank: &[u8], left: &[Left]) -> (State, Answer) {
-    let mut machine = match ReplayMachine::new(bank) {
+/// If no controller is made: the state of power off, and the refusal.
+pub fn replay(bank: &[u8], config: &Config, left: &[Left]) -> (State, Answer) {
+    let mut machine = match ReplayMachine::new(bank, config) {
         Ok(machine) => machine,
         Err(refusal) => return (State::OFF, Answer::Refused(refusal)),
     };
@@ -151,9 +156,9 @@ pub fn replay(bank: &[u8], left: &[Left]) -> (State, Answer) {
     (machine.state, machine.answer)
 }
 
-/// For each event left, whether it saves. Over a refused bank none does.
-pub fn saves(bank: &[u8], left: &[Left]) -> Vec<bool> {
-    match ReplayMachine::new(bank) {
+/// For each event left, whether it saves. If no controller is made none does.
+pub fn saves(bank: &[u8], config: &Config, left: &[Left]) -> Vec<bool> {
+    match ReplayMachine::new(bank, config) {
         Ok(mut machine) => left.iter().map(|event| machine.take(event)).collect(),
         Err(_) => vec![false; left.len()],
     }
@@ -161,10 +166,10 @@ pub fn saves(bank: &[u8], left: &[Left]) -> Vec<bool> {
 
 /// The ticks counted in each step since the last accepted start: "A tick is
 /// counted in step k if it is accepted in mode 1 at k, mode and step taken as
-/// before it." Over a refused bank none is.
-pub fn credits_due(bank: &[u8], left: &[Left]) -> [u64; CREDITS] {
+/// before it." If no controller is made none is.
+pub fn credits_due(bank: &[u8], config: &Config, left: &[Left]) -> [u64; CREDITS] {
     let mut due = [0; CREDITS];
-    let Ok(mut machine) = ReplayMachine::new(bank) else {
+    let Ok(mut machine) = ReplayMachine::new(bank, config) else {
         return due;
     };
     for one in left {

@@ -4,7 +4,7 @@ use std::io::Write;
 
 use crate::controller::{event, make};
 use crate::record::RECORD_BYTES;
-use crate::types::{Answer, Command, Event, Reading, Refusal, State};
+use crate::types::{Answer, Command, Config, Event, Reading, Refusal, State};
 
 /// "a line of any other form prints 99 and the seven unchanged"
 const OTHER_FORM: u8 = 99;
@@ -34,20 +34,22 @@ pub fn credits(bank: &[u8], input: &[u8]) -> Vec<u8> {
 
 /// Runs the lines, and gives the state that the last one left, making's if
 /// there is none. After each line `show` gets its number, the state and the set
-/// value. Over a refused bank no line is run.
+/// value. Over a refused bank no line is run. The alarms are all of kind 0.
 fn run_lines(
     bank: &[u8],
     input: &[u8],
     mut show: impl FnMut(u8, &State, i16),
 ) -> Result<State, Refusal> {
     let mut record = [0; RECORD_BYTES];
-    let (mut state, made) = make(bank, &mut record)?;
+    let config = Config::default();
+    let (mut state, made) = make(bank, &config, &mut record)?;
     let mut set_value = 0;
     take_set_value(made, &mut set_value);
     for line in lines(input) {
         let number = match read_line(line) {
             Some(read) => {
-                take_set_value(event(bank, &mut record, &mut state, read), &mut set_value)
+                let answer = event(bank, &config, &mut record, &mut state, read);
+                take_set_value(answer, &mut set_value)
             }
             None => OTHER_FORM,
         };

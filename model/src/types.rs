@@ -92,10 +92,18 @@ pub enum Event {
     Return(Reading),
 }
 
+/// What the state has of an event alarm: "flags (one byte: on 1, standby passed
+/// 2, kept 0 without standby) and delay count (16 bits)".
+#[derive(Clone, Copy, Debug, Default, PartialEq, Eq)]
+pub struct Alarm {
+    pub flags: u8,
+    pub count: u16,
+}
+
 /// "State: power on or off; mode (0 stopped, 1 running, 2 paused, 3 ended);
 /// pattern p; step k; pass r; elapsed e and waited w in seconds; base b; u,
 /// ticks since the last save; the measured value; one credit for each of the
-/// 99 steps, 32 bits."
+/// 99 steps, 32 bits." The four event alarms join them.
 #[derive(Clone, Copy, Debug, PartialEq, Eq)]
 pub struct State {
     pub power: bool,
@@ -109,6 +117,7 @@ pub struct State {
     pub u: u8,
     pub measured: Measured,
     pub credits: [u32; CREDITS],
+    pub alarms: [Alarm; 4],
 }
 
 impl State {
@@ -125,6 +134,7 @@ impl State {
         u: 0,
         measured: Measured::NoReading,
         credits: [0; CREDITS],
+        alarms: [Alarm { flags: 0, count: 0 }; 4],
     };
 }
 
@@ -145,6 +155,26 @@ pub struct Settings {
     pub waits: [u16; 4],
     pub on: [u16; 4],
     pub off: [u16; 4],
+}
+
+/// "Each alarm has a kind 0–8 ..., bounds H and L (−19,999 to 29,999),
+/// sensitivity C (0–9,999), a delay of 0–9,999 ticks and flags hold, standby."
+/// The flags are one number: hold 1, standby 2.
+#[derive(Clone, Copy, Debug, Default, PartialEq, Eq)]
+pub struct AlarmSetting {
+    pub kind: u8,
+    pub high: i16,
+    pub low: i16,
+    pub sensitivity: u16,
+    pub delay: u16,
+    pub flags: u8,
+}
+
+/// The settings that "go beside the bank to every call but its check and its
+/// writer".
+#[derive(Clone, Copy, Debug, Default, PartialEq, Eq)]
+pub struct Config {
+    pub alarms: [AlarmSetting; 4],
 }
 
 /// One step of a pattern.

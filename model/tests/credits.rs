@@ -3,7 +3,7 @@
 mod common;
 
 use common::*;
-use model::{credits, credits_due, what_is_left, Command, Event, Reading};
+use model::{credits, credits_due, what_is_left, Command, Config, Event, Reading};
 
 /// What the program prints for a bank.
 fn printed_over(bank: &[u8], input: &str) -> String {
@@ -157,6 +157,30 @@ fn line(event: Event) -> String {
     }
 }
 
+/// Alarms never change what is counted: the program, which has alarms of kind 0,
+/// prints the credits of a controller with any.
+#[test]
+fn alarms_leave_the_credits_as_they_are() {
+    let mut random = Random::new(14);
+    let mut credited = 0;
+    for _ in 0..300 {
+        let mut controller = Controller::with(random.bank(), random.config());
+        let events: Vec<Event> = (0..200).map(|_| random.event()).collect();
+        events.iter().for_each(|&event| {
+            controller.send(event);
+        });
+        let input: String = events.into_iter().map(line).collect();
+        let expected: String = (1..)
+            .zip(controller.state.credits)
+            .filter(|&(_, credit)| credit > 0)
+            .map(|(k, credit)| format!("{k} {credit}\n"))
+            .collect();
+        assert_eq!(printed_over(&controller.bank, &input), expected);
+        credited += usize::from(!expected.is_empty());
+    }
+    assert!(credited > 100, "{credited}");
+}
+
 /// The lines of a list print the credits that are due for what is left of it.
 #[test]
 fn random_lists_print_the_credits_that_are_due() {
@@ -166,9 +190,10 @@ fn random_lists_print_the_credits_that_are_due() {
         let bank = random.bank();
         let length = random.between(0, 400) as usize;
         let events: Vec<Event> = (0..length).map(|_| random.event()).collect();
-        let (left, power) = what_is_left(&bank, &events);
+        let config = Config::default();
+        let (left, power) = what_is_left(&bank, &config, &events);
         let expected: String = (1..)
-            .zip(credits_due(&bank, &left))
+            .zip(credits_due(&bank, &config, &left))
             .filter(|&(_, due)| power && due > 0)
             .map(|(k, due)| format!("{k} {due}\n"))
             .collect();

@@ -5,32 +5,32 @@ mod common;
 
 use common::*;
 use model::{
-    credits_due, record_of, replay, saves, what_is_left, Answer, Event, Left, Reading, Refusal,
-    State,
+    credits_due, record_of, replay, saves, what_is_left, Alarm, Answer, Config, Event, Left,
+    Reading, Refusal, State,
 };
 
 /// The whole claim for one list.
-fn claim_holds(bank: &[u8], events: &[Event]) {
-    let mut controller = Controller::new(bank.to_vec());
+fn claim_holds(bank: &[u8], config: &Config, events: &[Event]) {
+    let mut controller = Controller::with(bank.to_vec(), *config);
     for &event in events {
         controller.send(event);
     }
-    let (left, power) = what_is_left(bank, events);
+    let (left, power) = what_is_left(bank, config, events);
     assert_eq!(controller.state.power, power);
     if power {
-        let (state, answer) = replay(bank, &left);
+        let (state, answer) = replay(bank, config, &left);
         assert_eq!(controller.state, state);
         assert_eq!(controller.answer, answer);
-        credits_are_due(bank, &left, &controller.state);
+        credits_are_due(bank, config, &left, &controller.state);
     } else {
         power_off_holds(&controller, events);
     }
-    record_is_of_last_save(bank, &left, &controller);
+    record_is_of_last_save(&left, &controller);
 }
 
 /// "held at 4,294,967,295"
-fn credits_are_due(bank: &[u8], left: &[Left], state: &State) {
-    let due = credits_due(bank, left);
+fn credits_are_due(bank: &[u8], config: &Config, left: &[Left], state: &State) {
+    let due = credits_due(bank, config, left);
     assert_eq!(
         due.map(|count| count.min(u32::MAX.into()) as u32),
         state.credits
@@ -42,6 +42,7 @@ fn credits_are_due(bank: &[u8], left: &[Left], state: &State) {
 fn power_off_holds(controller: &Controller, events: &[Event]) {
     assert_eq!(controller.place(), (0, 0, 0, 0, 0, 0));
     assert_eq!(controller.state.credits, [0; 99]);
+    assert_eq!(controller.state.alarms, [Alarm::default(); 4]);
     match (events.last(), controller.answer) {
         (
             Some(Event::Cut),
@@ -56,24 +57,25 @@ fn power_off_holds(controller: &Controller, events: &[Event]) {
 }
 
 /// "the record is then that of the last save"
-fn record_is_of_last_save(bank: &[u8], left: &[Left], controller: &Controller) {
-    let saved = saves(bank, left)
+fn record_is_of_last_save(left: &[Left], controller: &Controller) {
+    let (bank, config) = (&controller.bank, &controller.config);
+    let saved = saves(bank, config, left)
         .iter()
         .rposition(|&saves| saves)
         .map_or(0, |last| last + 1);
-    let (state, _) = replay(bank, &left[..saved]);
+    let (state, _) = replay(bank, config, &left[..saved]);
     assert_eq!(controller.record, record_of(&state));
-    assert!(model::readable(bank, &controller.record));
+    assert!(controller.readable());
 }
 
 #[test]
 fn random_lists() {
     let mut random = Random::new(6);
     for _ in 0..1_500 {
-        let bank = random.bank();
+        let (bank, config) = (random.bank(), random.config());
         let length = random.between(0, 400) as usize;
         let events: Vec<Event> = (0..length).map(|_| random.event()).collect();
-        claim_holds(&bank, &events);
+        claim_holds(&bank, &config, &events);
     }
 }
 
@@ -82,10 +84,10 @@ fn random_lists() {
 fn every_front_part_of_random_lists() {
     let mut random = Random::new(7);
     for _ in 0..200 {
-        let bank = random.bank();
+        let (bank, config) = (random.bank(), random.config());
         let events: Vec<Event> = (0..60).map(|_| random.event()).collect();
         for length in 0..=events.len() {
-            claim_holds(&bank, &events[..length]);
+            claim_holds(&bank, &config, &events[..length]);
         }
     }
 }
@@ -95,9 +97,9 @@ fn every_front_part_of_random_lists() {
 #[test]
 fn long_runs_with_cuts() {
     let mut random = Random::new(8);
-    let mut ended = 0;
+    let (mut ended, mut sounding) = (0, 0);
     for _ in 0..300 {
-        let bank = random.bank();
+        let (bank, config) = (random.bank(), random.config());
         let mut events = vec![tick(20), START];
         while events.len() < 2_000 {
             match random.between(0, 199) {
@@ -106,11 +108,13 @@ fn long_runs_with_cuts() {
                 _ => events.push(Event::Tick(random.reading())),
             }
         }
-        claim_holds(&bank, &events);
-        let (left, _) = what_is_left(&bank, &events);
-        ended += usize::from(replay(&bank, &left).0.mode == 3);
+        claim_holds(&bank, &config, &events);
+        let (left, _) = what_is_left(&bank, &config, &events);
+        let (state, _) = replay(&bank, &config, &left);
+        ended += usize::from(state.mode == 3);
+        sounding += usize::from(state.alarms.iter().any(|alarm| alarm.flags & 1 == 1));
     }
-    assert!(ended > 10, "{ended}");
+    assert!(ended > 10 && sounding > 10, "{ended}, {sounding}");
 }
 
 #[test]
@@ -131,7 +135,8 @@ fn the_events_since_the_last_save_are_struck_out() {
         back_with(300),
         tick(200),
     ];
-    let (left, power) = what_is_left(&bank, &events);
+    let config = Config::default();
+    let (left, power) = what_is_left(&bank, &config, &events);
     let was_on = |event| Left {
         event,
         power_was_on: true,
@@ -147,44 +152,55 @@ fn the_events_since_the_last_save_are_struck_out() {
         was_on(tick(200)),
     ];
     assert_eq!((&left[..], power), (&expected[..], true));
-    assert_eq!(saves(&bank, &left), [true, true, true, false]);
-    assert_eq!(credits_due(&bank, &left)[..2], [1, 0]);
+    assert_eq!(saves(&bank, &config, &left), [true, true, true, false]);
+    assert_eq!(credits_due(&bank, &config, &left)[..2], [1, 0]);
 }
 
 #[test]
 fn nothing_left_gives_the_state_and_answer_of_making() {
-    let controller = Controller::new(example_bank());
-    assert_eq!(
-        replay(&controller.bank, &[]),
-        (controller.state, controller.answer)
-    );
-    assert_eq!(what_is_left(&controller.bank, &[]), (vec![], true));
-    assert_eq!(
-        what_is_left(&controller.bank, &[Event::Cut]),
-        (vec![], false)
-    );
+    let Controller {
+        bank,
+        config,
+        state,
+        answer,
+        ..
+    } = Controller::new(example_bank());
+    assert_eq!(replay(&bank, &config, &[]), (state, answer));
+    assert_eq!(what_is_left(&bank, &config, &[]), (vec![], true));
+    assert_eq!(what_is_left(&bank, &config, &[Event::Cut]), (vec![], false));
 }
 
-#[test]
-fn a_refused_bank_leaves_nothing() {
+/// Nothing is left of a list over which no controller is made.
+fn leaves_nothing(bank: &[u8], config: &Config, number: u8) {
     let events = [START, tick(1)];
-    assert_eq!(what_is_left(&[], &events), (vec![], false));
+    assert_eq!(what_is_left(bank, config, &events), (vec![], false));
     let left = [Left {
         event: START,
         power_was_on: true,
     }];
-    let (state, answer) = replay(&[], &left);
+    let (state, answer) = replay(bank, config, &left);
     assert!(!state.power);
     assert_eq!(
         answer,
         Answer::Refused(Refusal {
-            number: 11,
+            number,
             first: 0,
             second: 0
         })
     );
-    assert_eq!(saves(&[], &left), [false]);
-    assert_eq!(credits_due(&[], &left), [0; 99]);
+    assert_eq!(saves(bank, config, &left), [false]);
+    assert_eq!(credits_due(bank, config, &left), [0; 99]);
+}
+
+#[test]
+fn a_refused_bank_leaves_nothing() {
+    leaves_nothing(&[], &Config::default(), 11);
+    leaves_nothing(&[], &config(WRONG), 11);
+}
+
+#[test]
+fn settings_out_of_range_leave_nothing() {
+    leaves_nothing(&example_bank(), &config(WRONG), 41);
 }
 
 /// Lists that are not what is left of anything: no call panics.
@@ -192,21 +208,21 @@ fn a_refused_bank_leaves_nothing() {
 fn the_replay_machine_takes_any_list() {
     let mut random = Random::new(9);
     for _ in 0..500 {
-        let bank = random.bank();
+        let (bank, config) = (random.bank(), random.config());
         let left: Vec<Left> = (0..200)
             .map(|_| Left {
                 event: random.event(),
                 power_was_on: random.one_in(2),
             })
             .collect();
-        let (state, _) = replay(&bank, &left);
-        assert!(model::sound(&bank, &state));
-        credits_are_due(&bank, &left, &state);
-        assert_eq!(saves(&bank, &left).len(), left.len());
+        let (state, _) = replay(&bank, &config, &left);
+        assert!(model::sound(&bank, &config, &state));
+        credits_are_due(&bank, &config, &left, &state);
+        assert_eq!(saves(&bank, &config, &left).len(), left.len());
     }
     let over = Left {
         event: Event::Return(Reading::Over),
         power_was_on: false,
     };
-    assert_eq!(saves(&example_bank(), &[over]), [true]);
+    assert_eq!(saves(&example_bank(), &Config::default(), &[over]), [true]);
 }

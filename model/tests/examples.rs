@@ -3,7 +3,7 @@
 mod common;
 
 use common::*;
-use model::{sheet, Command, Event, Measured, Reading, Settings, State, Step};
+use model::{sheet, Alarm, Command, Config, Event, Measured, Reading, Settings, State, Step};
 
 /// The largest s that the writer accepts for n patterns.
 fn capacity(n: u8) -> usize {
@@ -90,6 +90,36 @@ fn sheet_example() {
         assert!(is_accepted(controller.send(event)));
     }
     assert_eq!(controller.state.credits[0], 1);
+    assert_eq!(controller.state.alarms, [Alarm::default(); 4]);
+    assert_eq!(controller.record[411..], [0; 12]);
+}
+
+/// The run of the sheet example with four alarms: measured whole value less set
+/// value is −3 after the first tick of the step, and −6 after the second.
+#[test]
+fn the_sheet_example_with_alarms() {
+    let alarms = [
+        alarm(2, -3, 0),
+        alarm(3, 0, -4),
+        alarm(8, 200, 200),
+        model::AlarmSetting {
+            delay: 1,
+            ..alarm(7, 0, 200)
+        },
+    ];
+    let mut controller = Controller::with(example_bank(), Config { alarms });
+    let flags_and_counts = |state: &State| state.alarms.map(|alarm| (alarm.flags, alarm.count));
+    for (event, expected) in [
+        (START, [(0, 0); 4]),
+        (tick(200), [(1, 0), (0, 0), (1, 0), (0, 1)]),
+        (Event::Cut, [(0, 0); 4]),
+        (back_with(200), [(0, 0); 4]),
+        (tick(200), [(1, 0), (0, 0), (1, 0), (0, 1)]),
+        (tick(200), [(0, 0), (1, 0), (1, 0), (1, 0)]),
+    ] {
+        assert!(is_accepted(controller.send(event)));
+        assert_eq!(flags_and_counts(&controller.state), expected, "{event:?}");
+    }
 }
 
 /// What the program prints for the bank of the example.

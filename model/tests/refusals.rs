@@ -4,7 +4,8 @@ mod common;
 
 use common::*;
 use model::{
-    check, make, write, Command, Event, Measured, Reading, Refusal, Settings, State, Step,
+    check, make, write, AlarmSetting, Command, Config, Event, Measured, Reading, Refusal, Settings,
+    State, Step,
 };
 
 /// The refusal of the example bank with one byte changed.
@@ -186,16 +187,16 @@ fn refusal_15_is_for_a_buffer_too_short() {
 fn refused_as_unsound(change: fn(&mut State)) {
     let mut controller = Controller::new(example_bank());
     change(&mut controller.state);
-    assert!(!model::sound(&controller.bank, &controller.state));
+    assert!(!controller.sound());
     refuses(&mut controller, back_with(99_999), 21);
     controller.state.power = false;
-    assert!(model::sound(&controller.bank, &controller.state));
+    assert!(controller.sound());
     assert!(is_accepted(controller.send(back_with(200))));
 }
 
 #[test]
 fn refusal_21_is_for_a_state_that_is_not_sound() {
-    let unsound: [fn(&mut State); 20] = [
+    let unsound: [fn(&mut State); 26] = [
         |state| state.mode = 4,
         |state| state.p = 0,
         |state| state.p = 2,
@@ -216,29 +217,38 @@ fn refusal_21_is_for_a_state_that_is_not_sound() {
         |state| (state.mode, state.b) = (1, -20_000),
         |state| (state.mode, state.b) = (3, 1),
         |state| (state.mode, state.k) = (3, 3),
+        |state| state.alarms[0].flags = 1,
+        |state| state.alarms[3].flags = 2,
+        |state| state.alarms[3].count = 1,
+        |state| (state.mode, state.alarms[3].flags) = (1, 2),
+        |state| (state.mode, state.alarms[0].flags) = (3, 4),
+        |state| (state.mode, state.alarms[1].count) = (2, 1),
     ];
     unsound.into_iter().for_each(refused_as_unsound);
 }
 
 #[test]
-fn refusal_22_is_for_a_record_buffer_not_411_bytes() {
-    let bank = example_bank();
-    for length in [0, 410, 412] {
+fn refusal_22_is_for_a_record_buffer_not_423_bytes() {
+    let (bank, config) = (example_bank(), config(WRONG));
+    for length in [0, 411, 422, 424, 819] {
         let mut record = vec![5; length];
         let refusal = with_values(22, 0, 0);
-        assert_eq!(make(&bank, &mut record), Err(refusal));
+        assert_eq!(make(&bank, &config, &mut record), Err(refusal));
         let before = State {
             power: false,
             ..Controller::new(bank.clone()).state
         };
         let mut state = before;
         assert_eq!(
-            model::event(&bank, &mut record, &mut state, tick(0)),
+            model::event(&bank, &config, &mut record, &mut state, tick(0)),
             refused(22)
         );
         assert_eq!((state, record), (before, vec![5; length]));
     }
-    assert_eq!(make(&bank[..44], &mut []), Err(with_values(11, 0, 0)));
+    assert_eq!(
+        make(&bank[..44], &config, &mut []),
+        Err(with_values(11, 0, 0))
+    );
 }
 
 #[test]
@@ -355,8 +365,142 @@ fn refusal_31_is_for_a_record_that_is_not_readable() {
     controller.send(Event::Cut);
     controller.record[0] = 4;
     refuses(&mut controller, back_with(200), 31);
-    assert!(!model::readable(&controller.bank, &controller.record));
+    assert!(!controller.readable());
     controller.record[0] = 0;
-    assert!(model::readable(&controller.bank, &controller.record));
+    assert!(controller.readable());
     assert!(is_accepted(controller.send(back_with(200))));
+}
+
+/// Return of a record whose alarms are out of their bounds.
+#[test]
+fn refusal_31_is_for_alarms_out_of_bounds() {
+    for (mode, offset, value, number) in [
+        (1, 411, 1, 0),
+        (1, 411, 2, 31),
+        (2, 414, 3, 31),
+        (3, 417, 4, 31),
+        (1, 412, 1, 31),
+        (1, 413, 1, 31),
+        (2, 421, 1, 31),
+        (3, 422, 1, 31),
+        (3, 420, 1, 0),
+        (0, 411, 1, 31),
+        (0, 420, 1, 31),
+        (0, 422, 1, 31),
+    ] {
+        let mut controller = Controller::new(example_bank());
+        controller.send(Event::Cut);
+        (controller.record[0], controller.record[offset]) = (mode, value);
+        assert_eq!(controller.readable(), number == 0);
+        if number == 0 {
+            assert!(is_accepted(controller.send(back_with(200))));
+        } else {
+            refuses(&mut controller, back_with(200), number);
+        }
+    }
+}
+
+type AlarmChange = fn(&mut AlarmSetting);
+
+/// Changes of one alarm's settings, and whether they leave it in range.
+const ALARM_CHANGES: [(AlarmChange, bool); 24] = [
+    (|alarm| alarm.kind = 8, true),
+    (|alarm| alarm.kind = 9, false),
+    (|alarm| alarm.kind = 255, false),
+    (|alarm| alarm.high = -19_999, true),
+    (|alarm| alarm.high = -20_000, false),
+    (|alarm| alarm.high = 29_999, true),
+    (|alarm| alarm.high = 30_000, false),
+    (|alarm| alarm.low = -19_999, true),
+    (|alarm| alarm.low = -20_000, false),
+    (|alarm| alarm.low = 29_999, true),
+    (|alarm| alarm.low = 30_000, false),
+    (|alarm| alarm.sensitivity = 9_999, true),
+    (|alarm| alarm.sensitivity = 10_000, false),
+    (|alarm| alarm.delay = 9_999, true),
+    (|alarm| alarm.delay = 10_000, false),
+    (|alarm| alarm.flags = 3, true),
+    (|alarm| alarm.flags = 4, false),
+    (|alarm| alarm.flags = 255, false),
+    (
+        |alarm| (alarm.kind, alarm.high, alarm.low) = (4, 5, 5),
+        true,
+    ),
+    (
+        |alarm| (alarm.kind, alarm.high, alarm.low) = (4, 5, 6),
+        false,
+    ),
+    (
+        |alarm| (alarm.kind, alarm.high, alarm.low) = (8, 5, 6),
+        false,
+    ),
+    (
+        |alarm| (alarm.kind, alarm.high, alarm.low) = (1, 5, 6),
+        true,
+    ),
+    (
+        |alarm| (alarm.kind, alarm.high, alarm.low) = (5, 5, 6),
+        true,
+    ),
+    (
+        |alarm| (alarm.kind, alarm.high, alarm.low) = (0, 5, 6),
+        true,
+    ),
+];
+
+#[test]
+fn refusal_41_is_for_an_alarm_setting_out_of_range() {
+    let bank = example_bank();
+    for (change, in_range) in ALARM_CHANGES {
+        for place in 0..4 {
+            let mut config = Config::default();
+            change(&mut config.alarms[place]);
+            let mut record = [7; 423];
+            let made = make(&bank, &config, &mut record);
+            assert_eq!(made.is_ok(), in_range, "{config:?}");
+            let mut controller = Controller::new(bank.clone());
+            controller.config = config;
+            if in_range {
+                assert!(is_accepted(controller.send(tick(0))));
+            } else {
+                assert_eq!(made, Err(with_values(41, 0, 0)));
+                assert_eq!(record, [7; 423]);
+                refuses(&mut controller, tick(0), 41);
+            }
+        }
+    }
+}
+
+/// 41 is given "after 22", and before 23 and all that follow it.
+#[test]
+fn refusal_41_comes_after_22() {
+    let bank = example_bank();
+    let wrong = config(WRONG);
+    let made = |bank: &[u8], length| make(bank, &wrong, &mut vec![5; length]).unwrap_err();
+    assert_eq!(made(&bank[..44], 0), with_values(11, 0, 0));
+    assert_eq!(made(&example_with(2, 3), 423), with_values(12, 2, 0));
+    assert_eq!(made(&example_with(49, 100), 423), with_values(14, 1, 0));
+    assert_eq!(made(&bank, 422), with_values(22, 0, 0));
+    assert_eq!(made(&bank, 423), with_values(41, 0, 0));
+
+    let mut controller = Controller::new(bank);
+    controller.config = wrong;
+    let mut live = controller.state;
+    let answer = model::event(&controller.bank, &wrong, &mut [0; 411], &mut live, START);
+    assert_eq!(answer, refused(22));
+    for event in [
+        back_with(99_999),
+        tick(99_999),
+        Event::Cut,
+        Event::Command(Command::Select(99)),
+        Event::Command(Command::Pause),
+    ] {
+        refuses(&mut controller, event, 41);
+    }
+    controller.state.u = 60;
+    refuses(&mut controller, tick(0), 21);
+    controller.state.power = false;
+    controller.record.fill(255);
+    refuses(&mut controller, tick(0), 41);
+    refuses(&mut controller, back_with(0), 41);
 }

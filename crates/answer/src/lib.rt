@@ -64,6 +64,7 @@ fn of_refusal(refusal: Refusal) -> u8
     match refusal {
         Refusal::Unsound => 21,
         Refusal::Buffer => 22,
+        Refusal::AlarmSetting => 41,
         Refusal::PowerOff => 23,
         Refusal::PowerOn => 24,
         Refusal::Outside => 25,

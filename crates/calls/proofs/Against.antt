@@ -7,22 +7,30 @@ use mathlib.Core.List.{List, [], _∷_}
 use borrow.Author.Tests.{lt-leb}
 use lib.IntN.{pos, negsuc}
 use lib.ListN.{take, drop, replicate}
-use Rattle.field.specs.Field.{num, field, digits}
+use Rattle.field.specs.Field.{num, field, signedField, digits}
 use Rattle.field.specs.Row.{row, total}
+use Rattle.setting.specs.declared.Checked.the-variants.{Accepted}
+use Rattle.bank.specs.Check.{foundIn}
 use Rattle.measure.specs.declared.Measured.{Measured}
 use Rattle.position.specs.Tests.{both}
+use Rattle.alarm.specs.Alarm.{allInRange}
 use Rattle.plain.specs.declared.Answer.{Answer}
 use Rattle.plain.specs.declared.Refusal.{Refusal}
 use Rattle.plain.specs.Answer.{numberOf, isAccepted}
 use Rattle.plain.specs.Event.{State, After}
-use Rattle.plain.specs.Record.{widthsOf, numbersIn, creditWidths}
+use Rattle.plain.specs.Record.{widthsOf, numbersIn, creditWidths, sized}
+use Rattle.plain.specs.Setup.{Setup}
+use Rattle.plain.specs.Listed.{formed}
 use Rattle.calls.specs.Result.{packed, signalBits, resultOf}
-use Rattle.calls.specs.Carried.{kindOf, bitsOf, stateSize, restFrom, stateBytes, stateIn, isState, carriedOut}
+use Rattle.calls.specs.Carried.{kindOf, bitsOf, stateSize, restFrom, stateBytes, stateIn, roomy, isState, carriedOut}
+use Rattle.calls.specs.Config.{alarmSettingAt}
+use Rattle.calls.specs.Calls.{After as AfterCall, runOver}
+use Rattle.calls.proofs.Meets.{no-setting}
 
 -- ---- a state as bytes
 
--- it has 422 bytes, and u stands at 412
-pub state-size : (stateSize ≡ 422) × (restFrom ≡ 412)
+-- it has 434 bytes, and u stands at 424
+pub state-size : (stateSize ≡ 434) × (restFrom ≡ 424)
 unfolding widthsOf creditWidths total
 state-size = (refl, refl)
 
@@ -36,12 +44,19 @@ example =
             position = record { mode = 2; pattern = 3; step = 4; pass = 5; elapsed = 6; waited = 7; base = pos 8 };
             unsaved = 59;
             measured = Measured.Over;
+            alarms =
+                record {
+                  first = record { flags = 1; count = 10 };
+                  second = record { flags = 2; count = 11 };
+                  third = record { flags = 3; count = 12 };
+                  fourth = record { flags = 0; count = 13 };
+                };
           };
       credits = replicate 99 9;
     }
 
 -- power stands first, then the record; u, the kind (over is 1) and y stand last, whatever a reader of the same mind would read back
-pub state-order : (take 5 (stateBytes example) ≡ 1 ∷ 2 ∷ 3 ∷ 4 ∷ 5 ∷ []) × (take 3 (drop 412 (stateBytes example)) ≡ 59 ∷ 1 ∷ 0 ∷ [])
+pub state-order : (take 5 (stateBytes example) ≡ 1 ∷ 2 ∷ 3 ∷ 4 ∷ 5 ∷ []) × (take 3 (drop 424 (stateBytes example)) ≡ 59 ∷ 1 ∷ 0 ∷ [])
 unfolding stateBytes kindOf bitsOf widthsOf numbersIn creditWidths row digits
 state-order = (refl, refl)
 
@@ -78,6 +93,20 @@ module _ (bytes : List ℕ) where
   pub refused-bytes : (left : After) → isAccepted (left .answer) ≡ false → carriedOut bytes left .bytes ≡ bytes
   unfolding carriedOut
   refused-bytes left holds = ap (λ (test : Bool). cond test (stateBytes (left .state)) bytes) holds
+
+-- ---- the settings beside the bank
+
+-- kind, H, L, C, delay, flags, low byte first
+pub setting-order : alarmSettingAt (7 ∷ 1 ∷ 2 ∷ 254 ∷ 255 ∷ 3 ∷ 1 ∷ 4 ∷ 2 ∷ 3 ∷ []) 0
+    ≡ record { kind = 7; high = pos 513; low = negsuc 1; sensitivity = 259; delay = 516; flags = 3 }
+unfolding alarmSettingAt field signedField num
+setting-order = refl
+
+-- settings out of range leave the state's bytes to a run of a list too
+pub setting-leaves : (setup : Setup) (store state events : List ℕ) → formed events ≡ true → foundIn (setup .bank) ≡ Accepted → roomy state ≡ true
+    → sized store ≡ true → allInRange (setup .config .alarms) ≡ false → runOver store state events setup .state ≡ state
+setting-leaves setup store state events listed ok room whole right =
+    ap (λ (left : AfterCall). left .state) (no-setting setup store state events listed ok room whole right)
 
 -- ---- a result as one number
 

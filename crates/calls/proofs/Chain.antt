@@ -7,15 +7,16 @@ use mathlib.Core.Bool.{Bool, true, false, cond}
 use mathlib.Core.List.{List, [], _∷_}
 use native.Mathlib.Omega.{arith}
 use Rattle.field.proofs.Rows.{zero-at}
-use Rattle.setting.specs.declared.Checked.the-variants.{Accepted}
-use Rattle.bank.specs.Check.{foundIn}
 use Rattle.measure.specs.Filter.{soundOf}
 use Rattle.measure.specs.declared.Measured.{Measured}
 use Rattle.measure.proofs.Laws.{Fits64, sound-number}
+use Rattle.alarm.specs.Alarm.{allClear}
+use Rattle.alarm.proofs.Bounds.{clear-bounded}
+use Rattle.alarm.proofs.Written.{bounded-ranged}
 use Rattle.outage.specs.Outage.{Power, on, off}
 use Rattle.plain.specs.declared.Event.{Event}
 use Rattle.plain.specs.Record.{sized}
-use Rattle.plain.specs.Setup.{Setup}
+use Rattle.plain.specs.Setup.{Setup, Usable}
 use Rattle.plain.specs.Answer.{isAccepted}
 use Rattle.plain.specs.Event.{State, After, dark, darkRun, eventOutcome, makeOutcome, eventsFrom, final}
 use Rattle.plain.specs.Replay.{machine}
@@ -32,7 +33,7 @@ numeric Measured.Over holds float-fits = tt
 numeric Measured.Under holds float-fits = tt
 numeric (Measured.Value y) holds float-fits = (float-fits, sound-number y holds)
 
-module _ (setup : Setup) (ok : foundIn (setup .bank) ≡ Accepted) where
+module _ (setup : Setup) (ok : Usable setup) where
   carriable : (power : Power (machine setup)) → GoodPower setup ok power → Carriable (stateOf setup ok power)
   unfolding GoodPower stateOf dark darkRun
   carriable (on live) good-power =
@@ -54,6 +55,7 @@ module _ (setup : Setup) (ok : foundIn (setup .bank) ≡ Accepted) where
               base = record { sfits = omega arith };
               long = refl;
               each = λ i. omega (arith, zero-at 99 i);
+              alarms = bounded-ranged (setup .config .alarms) 0 allClear (clear-bounded (setup .config .alarms) 0) (ok .alarms);
             };
         unsaved = omega arith;
         measured = tt;
@@ -73,7 +75,7 @@ module _ (setup : Setup) (ok : foundIn (setup .bank) ≡ Accepted) where
   unfolding eventCarried carriedOut
   one-call state store stands event =
       let holds = stands-carriable state store stands in
-      rw (ok, is-state state holds, state-back state holds) (go (isAccepted (eventOutcome setup store state event .answer)) refl)
+      rw (ok .bank, is-state state holds, state-back state holds) (go (isAccepted (eventOutcome setup store state event .answer)) refl)
     where
       left : After
       left = eventOutcome setup store state event
@@ -96,7 +98,7 @@ module _ (setup : Setup) (ok : foundIn (setup .bank) ≡ Accepted) where
   module _ (store : List ℕ) (whole : sized store ≡ true) where
     make-call : (bytes : List ℕ) → roomy bytes ≡ true → makeCarried setup store bytes ≡ carried (makeOutcome setup store)
     unfolding makeCarried carriedOut view isAccepted
-    make-call bytes holds = rw (ok, holds, made setup ok store whole)
+    make-call bytes holds = rw (ok .bank, holds, made setup ok store whole)
 
     -- a chain of calls leaves exactly what the list of events leaves
     pub chained : (bytes : List ℕ) → roomy bytes ≡ true → (events : List Event)

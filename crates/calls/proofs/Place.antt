@@ -90,14 +90,3 @@ number-set width (suc m) bytes at (suc i) value small fits h =
     (ap (sets bytes at) (digits-field width bytes at small (omega arith)) ∙ stays bytes at width (omega arith))
     ∙ number-set width m bytes (at + width) i value small (omega arith) (omega arith)
     ∙ ap (λ (place : ℕ). sets bytes place (digits width value)) next
-
--- ---- a copy
-
--- a turn of a loop that copies
-pub copy-turn : (store part : List ℕ) (i : ℕ) → i < length store → i < length part
-    → set (take i part ++ drop i store) i (getD part i 0) ≡ take (i + 1) part ++ drop (i + 1) store
-copy-turn store part i h l =
-    let front : length (take i part) ≡ i = length-take-le i part (omega arith) in
-    rw (drop-cons store i 0 h, add-one)
-    (set-at (take i part) (getD store i 0) (drop (suc i) store) (getD part i 0) i front
-    ∙ sym (ap (λ (x : List ℕ). x ++ drop (suc i) store) (take-suc part i 0 l) ∙ append-snoc (take i part) (getD part i 0) (drop (suc i) store)))

@@ -12,6 +12,7 @@ use Rattle.setting.specs.declared.Checked.the-variants.{Accepted}
 use Rattle.setting.proofs.Laws.{is-accepted}
 use Rattle.bank.specs.Check.{foundIn}
 use Rattle.position.proofs.Tests.{choice}
+use Rattle.alarm.specs.Alarm.{allInRange}
 use Rattle.plain.specs.declared.Answer.{Answer}
 use Rattle.plain.specs.declared.Event.{Event}
 use Rattle.plain.specs.declared.Reply.{Reply}
@@ -24,7 +25,7 @@ use Rattle.plain.proofs.Reply.{the-type}
 use Rattle.demand.specs.Run.{AfterRun, afterRun, given, runOutcome, answerIn}
 use Rattle.calls.specs.Result.{packed, resultOf}
 use Rattle.calls.specs.Carried.{stateBytes, roomy}
-use Rattle.calls.specs.Calls.{after, listLeaves, runLeaves}
+use Rattle.calls.specs.Calls.{after, listLeaves, runOver}
 use Rattle.calls.proofs.Meets.{no-list, bank-refused, is-run}
 use Rattle.calls.proofs.Written.{isBank, known-answers}
 
@@ -63,7 +64,10 @@ module _ (setup : Setup) (store : List ℕ) where
 
   made-other : passes (foundIn (setup .bank)) ≡ true → isBank (makeOutcome setup store .answer) ≡ false
   unfolding makeOutcome retainedIn
-  made-other ok = rw ok (choice (λ (left : Left). isBank (left .answer) ≡ false) (not (sized store)) (λ _. refl) (λ _. refl))
+  made-other ok = rw ok (choice Other (not (sized store)) (λ _. refl) (λ _. choice Other (not (allInRange (setup .config .alarms))) (λ _. refl) (λ _. refl)))
+    where
+      Other : Left → Type 0
+      Other left = isBank (left .answer) ≡ false
 
   accepted-final : passes (foundIn (setup .bank)) ≡ true → (events : List Event) → isBank (final setup store events .answer) ≡ false
   unfolding final
@@ -90,10 +94,10 @@ module _ (setup : Setup) (store state events : List ℕ) (left : AfterRun) (is :
   unfolding runOutcome
   is-listed listed = is ∙ rw listed
 
-  pub reply-none : left .reply ≡ Reply.NoForm → after 99 (left .store) state ≡ runLeaves setup store state events
+  pub reply-none : left .reply ≡ Reply.NoForm → after 99 (left .store) state ≡ runOver store state events setup
   reply-none none = go (formed events) refl
     where
-      go : (x : Bool) → formed events ≡ x → after 99 (left .store) state ≡ runLeaves setup store state events
+      go : (x : Bool) → formed events ≡ x → after 99 (left .store) state ≡ runOver store state events setup
       go true listed = absurd (false≢true (ap gives (sym none ∙ ap (λ (x : AfterRun). x .reply) (is-listed listed))))
       go false unlike =
           ap (λ (x : AfterRun). after 99 (x .store) state) (unlisted unlike) ∙ sym (no-list setup store state events unlike)
@@ -112,11 +116,11 @@ module _ (setup : Setup) (store state events : List ℕ) (left : AfterRun) (is :
     last = sym (ap answerIn gave) ∙ ap (λ (x : AfterRun). answerIn (x .reply)) (is-listed listed)
 
     -- a refused bank leaves all
-    pub reply-bank : isBank answer ≡ true → after result (left .store) state ≡ runLeaves setup store state events
+    pub reply-bank : isBank answer ≡ true → after result (left .store) state ≡ runOver store state events setup
     unfolding resultOf
     reply-bank bank = go (passes (foundIn (setup .bank))) refl
       where
-        go : (x : Bool) → passes (foundIn (setup .bank)) ≡ x → after result (left .store) state ≡ runLeaves setup store state events
+        go : (x : Bool) → passes (foundIn (setup .bank)) ≡ x → after result (left .store) state ≡ runOver store state events setup
         go true ok = absurd (false≢true (sym (accepted-final setup store ok (eventsIn events)) ∙ ap isBank (sym last) ∙ bank))
         go false denied =
             let ended = refused-final setup store denied (eventsIn events) in
@@ -125,14 +129,14 @@ module _ (setup : Setup) (store state events : List ℕ) (left : AfterRun) (is :
             ∙ sym (bank-refused setup store state events listed denied)
 
     -- any other answer is that of a list that was run over an accepted bank
-    pub reply-run : isBank answer ≡ false → roomy state ≡ true → sized store ≡ true → (bytes : List ℕ)
-        → bytes ≡ cond (roomy state) (stateBytes (left .state)) state → after result (left .store) bytes ≡ runLeaves setup store state events
+    pub reply-run : isBank answer ≡ false → roomy state ≡ true → sized store ≡ true → allInRange (setup .config .alarms) ≡ true → (bytes : List ℕ)
+        → bytes ≡ cond (roomy state) (stateBytes (left .state)) state → after result (left .store) bytes ≡ runOver store state events setup
     unfolding listLeaves
-    reply-run other room whole bytes wrote =
+    reply-run other room whole right bytes wrote =
         let written : bytes ≡ stateBytes (left .state) = wrote ∙ rw room in
         (λ i. after ((number ∙ ap resultOf last) i) (left .store) (written i))
         ∙ ap (λ (x : AfterRun). after (resultOf (final setup store (eventsIn events) .answer)) (x .store) (stateBytes (x .state))) (is-listed listed)
-        ∙ sym (is-run setup store state events listed accepted room whole)
+        ∙ sym (is-run setup store state events listed accepted room whole right)
       where
         go : (x : Bool) → passes (foundIn (setup .bank)) ≡ x → x ≡ true
         go true ok = refl

@@ -17,7 +17,9 @@ use Rattle.field.specs.Row.{rowAt, total}
 use Rattle.field.proofs.Rows.{held, none, length-row}
 use Rattle.measure.specs.declared.Measured.{Measured}
 use Rattle.position.specs.Tests.{both}
-use Rattle.plain.specs.Record.{widthsOf, numbersIn, positionWidths, creditWidths, positionIn, creditsIn}
+use Rattle.alarm.specs.Part.{alarmWidths}
+use Rattle.alarm.proofs.Written.{alarmsFrom as numbered-alarms, alarms-row}
+use Rattle.plain.specs.Record.{widthsOf, numbersIn, positionWidths, creditWidths, positionIn, creditsIn, alarmsIn}
 use Rattle.plain.specs.Event.{State}
 use Rattle.plain.proofs.Record.{Ranged, Within, Stand, length-parts, stand-written, within, positionFrom}
 use Rattle.calls.specs.Carried.{kindOf, bitsOf, checkpointOf, stateParts, stateSize, stateBytes, measuredAs, stateIn, roomy, bitsRight, isState}
@@ -100,7 +102,13 @@ module _ (state : State) (in-range : Carriable state) where
       let value = state .run .measured in
       let retained = within (checkpointOf state) (in-range .retained) in (
         held (power-below (state .power)) none,
-        (retained .0, (retained .1 .0, (held (in-range .unsaved) (held (kind-below value) (held (bits-below value (in-range .measured)) none)), tt))),
+        (
+          retained .0,
+          (
+            retained .1 .0,
+            (retained .1 .1 .0, (held (in-range .unsaved) (held (kind-below value) (held (bits-below value (in-range .measured)) none)), tt)),
+          ),
+        ),
       )
 
   stands : Stand state stateParts (stateBytes state) 0
@@ -111,17 +119,19 @@ module _ (state : State) (in-range : Carriable state) where
   unfolding stateBytes creditWidths
   length-state =
       length-row (widthsOf stateParts) (numbersIn stateParts state)
-      (length-parts state stateParts (refl, (refl, (length-replicate {A = ℕ} 99 4 ∙ sym (in-range .retained .long), (refl, tt)))))
+      (length-parts state stateParts (refl, (refl, (length-replicate {A = ℕ} 99 4 ∙ sym (in-range .retained .long), (refl, (refl, tt))))))
 
   -- its bytes are read as the state
   pub state-back : stateIn (stateBytes state) ≡ state
-  unfolding stateIn positionIn creditsIn creditWidths signedField rowAt widthsOf total
+  unfolding stateIn positionIn creditsIn alarmsIn creditWidths signedField rowAt widthsOf total
   state-back =
       let bytes = stateBytes state in
       let position : positionIn (drop 1 bytes) ≡ state .run .position =
       ap positionFrom (rows-from positionWidths bytes 1 0 ∙ stands .1 .0) ∙ rw (toZ-ofZ (in-range .retained .base)) in
       let credits = rows-from creditWidths bytes 1 _ ∙ stands .1 .1 .0 in
-      let rest = stands .1 .1 .1 .0 in
+      let alarms : alarmsIn (drop 1 bytes) ≡ state .run .alarms =
+      alarms-row (drop 1 bytes) _ ∙ ap numbered-alarms (rows-from alarmWidths bytes 1 _ ∙ stands .1 .1 .1 .0) in
+      let rest = stands .1 .1 .1 .1 .0 in
       λ i. record {
         power = (ap (λ (numbers : List ℕ). eqb (getD numbers 0 0) 1) (stands .0) ∙ power-back (state .power)) i;
         run = record {
@@ -129,6 +139,7 @@ module _ (state : State) (in-range : Carriable state) where
           unsaved = ap (λ (numbers : List ℕ). getD numbers 0 0) rest i;
           measured =
               (ap (λ (numbers : List ℕ). measuredAs (getD numbers 1 0) (getD numbers 2 0)) rest ∙ measured-back (state .run .measured) (in-range .measured)) i;
+          alarms = alarms i;
         };
         credits = credits i;
       }
@@ -137,7 +148,7 @@ module _ (state : State) (in-range : Carriable state) where
   pub is-state : isState (stateBytes state) ≡ true
   unfolding isState roomy both creditWidths rowAt widthsOf total
   is-state =
-      let rest = stands .1 .1 .1 .0 in
+      let rest = stands .1 .1 .1 .1 .0 in
       let judged : ℕ → List ℕ → Bool = λ power numbers. both (leb power 1) (both (leb (getD numbers 1 0) 3) (bitsRight (getD numbers 1 0) (getD numbers 2 0))) in
       rw (eq-eqb _ _ length-state)
       ((λ i. judged (getD (stands .0 i) 0 0) (rest i)) ∙ rw (power-right (state .power)) (kind-right (state .run .measured) (in-range .measured)))

@@ -11,7 +11,7 @@ use types.Run.{OneOf}
 use mathlib.Core.Logic.{⊎-elim}
 use borrow.Author.Tests.{eqb-true}
 use lib.ListN.{length, take, drop, getD, set, length-set, length-replicate}
-use lib.Seq.{sets, sets-eq, drop-drop, take-at, set-out, drop-set-lt}
+use lib.Seq.{sets, sets-eq, length-sets, drop-drop, take-at, set-out, drop-set-lt}
 use Rattle.field.specs.Field.{field, digits}
 use Rattle.field.specs.Row.{row, rowAt, total}
 use Rattle.field.proofs.Laws.{Bytes}
@@ -20,13 +20,15 @@ use Rattle.setting.specs.Found.{isAccepted as passes}
 use Rattle.bank.specs.Check.{foundIn}
 use Rattle.position.specs.declared.Position.{Position}
 use Rattle.position.proofs.Tests.{both-left}
+use Rattle.alarm.specs.declared.Alarms.{Alarms}
+use Rattle.alarm.specs.Part.{alarmWidths, alarmNumbers}
 use Rattle.plain.specs.declared.Run.{Run}
 use Rattle.plain.specs.declared.Credit.{Credit}
 use Rattle.plain.specs.declared.Event.{Event}
 use Rattle.plain.specs.declared.Refusal.{Refusal}
 use Rattle.plain.specs.declared.Answer.{Answer}
 use Rattle.plain.specs.declared.Effect.{Effect}
-use Rattle.plain.specs.Record.{Checkpoint, widthsOf, numbersIn, positionWidths, positionNumbers, creditWidths, parts, recordSize, recordOf, creditsIn}
+use Rattle.plain.specs.Record.{Checkpoint, widthsOf, numbersIn, positionWidths, positionNumbers, creditWidths, parts, recordSize, alarmsFrom, recordOf, creditsIn}
 use Rattle.plain.specs.Setup.{Setup}
 use Rattle.plain.specs.Run.{cooked, credited}
 use Rattle.plain.specs.Answer.{isAccepted}
@@ -80,19 +82,11 @@ long-credited Credit.Clear store bytes = refl
 long-credited Credit.Restore store bytes = length-rowAt creditWidths store _
 
 module _ (bytes : List ℕ) (small : Bytes bytes) (long : length bytes ≡ stateSize) where
-  -- a position that is written before credits that stand there is the record
-  pub kept : (position : Position)
-      → sets bytes 1 (row positionWidths (positionNumbers position)) ≡ sets bytes 1 (recordOf (record { position = position; credits = creditsIn (drop 1 bytes) }))
-  unfolding recordOf creditWidths widthsOf numbersIn total
-  kept position =
-      let credits = creditsIn (drop 1 bytes) in
-      let front = row positionWidths (positionNumbers position) in
-      let size : length front ≡ 15 = length-row positionWidths (positionNumbers position) refl in
-      sym (rows-stay front creditWidths bytes 1 small (omega arith))
-      ∙ ap (λ (end : ℕ). sets bytes 1 (front ++ row creditWidths (rowAt creditWidths bytes (1 + end)))) size
-      ∙ ap (λ (numbers : List ℕ). sets bytes 1 (front ++ row creditWidths numbers)) (sym (credits-there bytes))
-      ∙ ap (sets bytes 1) (row-append positionWidths (positionNumbers position) creditWidths credits refl)
-      ∙ (λ i. sets bytes 1 (row (positionWidths ++ sym (append-nil creditWidths) i) (positionNumbers position ++ sym (append-nil credits) i)))
+  -- credits that stand there, written again
+  pub credits-stay : sets bytes 16 (row creditWidths (creditsIn (drop 1 bytes))) ≡ bytes
+  unfolding creditWidths widthsOf total
+  credits-stay =
+      ap (λ (credits : List ℕ). sets bytes 16 (row creditWidths credits)) (credits-there bytes) ∙ rows-stay [] creditWidths bytes 16 small (omega arith)
 
   -- and one credit that is written among them
   pub cooks : (k : ℕ) → k - 1 < 99 → (value : ℕ) → value ≡ getD (creditsIn (drop 1 bytes)) (k - 1) 0
@@ -116,22 +110,49 @@ module _ (bytes : List ℕ) (small : Bytes bytes) (long : length bytes ≡ state
       (set-out (creditsIn (drop 1 bytes)) (k - 1) _ (omega (arith, many)) ∙ credits-there bytes)
       ∙ rows-stay [] creditWidths bytes 16 small (omega arith))
 
--- a position, and then one credit
-pub position-cooks : (bytes : List ℕ) (position : Position) (k : ℕ) → length bytes ≡ stateSize
-    → let written = sets bytes 1 (row positionWidths (positionNumbers position)) in
-    sets written 16 (row creditWidths (cooked (creditsIn (drop 1 written)) k))
-    ≡ sets bytes 1 (recordOf (record { position = position; credits = cooked (creditsIn (drop 1 bytes)) k }))
-unfolding recordOf creditWidths widthsOf total cooked creditsIn
-position-cooks bytes position k long =
-    let front = row positionWidths (positionNumbers position) in
-    let written = sets bytes 1 front in
-    let size : length front ≡ 15 = length-row positionWidths (positionNumbers position) refl in
-    let same : creditsIn (drop 1 written) ≡ creditsIn (drop 1 bytes) =
-    credits-there written ∙ rows-after creditWidths front bytes 1 16 (omega arith) ∙ sym (credits-there bytes) in
-    let checkpoint : Checkpoint = record { position = position; credits = cooked (creditsIn (drop 1 bytes)) k } in
-    let many : length (checkpoint .credits) ≡ 99 = length-set (creditsIn (drop 1 bytes)) (k - 1) _ ∙ length-rowAt creditWidths (drop 1 bytes) _ in
-    ap (λ (credits : List ℕ). sets written 16 (row creditWidths (cooked credits k))) same
-    ∙ put-parts checkpoint parts bytes 1 (refl, (length-replicate {A = ℕ} 99 4 ∙ sym many, tt))
+-- a position, then the credits, then the alarms, is the record
+module _ (bytes : List ℕ) (position : Position) (alarms : Alarms) (long : length bytes ≡ stateSize) where
+  abbrev placed : List ℕ
+  placed = sets bytes 1 (row positionWidths (positionNumbers position))
+
+  -- writing the position leaves the credits
+  pub credits-kept : creditsIn (drop 1 placed) ≡ creditsIn (drop 1 bytes)
+  unfolding creditWidths widthsOf total
+  credits-kept =
+      let front = row positionWidths (positionNumbers position) in
+      let size : length front ≡ 15 = length-row positionWidths (positionNumbers position) refl in
+      credits-there placed ∙ rows-after creditWidths front bytes 1 16 (omega arith) ∙ sym (credits-there bytes)
+
+  retained-put : (credits : List ℕ) → length credits ≡ 99
+      → sets (sets placed 16 (row creditWidths credits)) (1 + alarmsFrom) (row alarmWidths (alarmNumbers alarms))
+      ≡ sets bytes 1 (recordOf (record { position = position; credits = credits; alarms = alarms }))
+  unfolding recordOf creditWidths widthsOf total
+  retained-put credits many =
+      put-parts (record { position = position; credits = credits; alarms = alarms }) parts bytes 1 (refl, (length-replicate {A = ℕ} 99 4 ∙ sym many, (refl, tt)))
+
+  -- where the credits stay, and where one of them gains 1
+  module _ (left : List ℕ) (is : left ≡ placed) where
+    same-credits : creditsIn (drop 1 left) ≡ creditsIn (drop 1 bytes)
+    same-credits = ap (λ (x : List ℕ). creditsIn (drop 1 x)) is ∙ credits-kept
+
+    pub keep-put : Bytes left
+        → sets left (1 + alarmsFrom) (row alarmWidths (alarmNumbers alarms))
+        ≡ sets bytes 1 (recordOf (record { position = position; credits = creditsIn (drop 1 bytes); alarms = alarms }))
+    unfolding credited
+    keep-put small =
+        let stay = credits-stay left small (ap length is ∙ length-sets bytes 1 (row positionWidths (positionNumbers position)) ∙ long) in
+        ap (λ (x : List ℕ). sets x (1 + alarmsFrom) (row alarmWidths (alarmNumbers alarms)))
+        (sym stay ∙ (λ i. sets (is i) 16 (row creditWidths (same-credits i))))
+        ∙ retained-put (creditsIn (drop 1 bytes)) (long-credited Credit.Keep bytes (drop 1 bytes))
+
+    pub cook-put : (k : ℕ) (cooking : List ℕ) → cooking ≡ sets left 16 (row creditWidths (cooked (creditsIn (drop 1 left)) k))
+        → sets cooking (1 + alarmsFrom) (row alarmWidths (alarmNumbers alarms))
+        ≡ sets bytes 1 (recordOf (record { position = position; credits = cooked (creditsIn (drop 1 bytes)) k; alarms = alarms }))
+    unfolding credited
+    cook-put k cooking put =
+        ap (λ (x : List ℕ). sets x (1 + alarmsFrom) (row alarmWidths (alarmNumbers alarms)))
+        (put ∙ (λ i. sets (is i) 16 (row creditWidths (cooked (same-credits i) k))))
+        ∙ retained-put (cooked (creditsIn (drop 1 bytes)) k) (long-credited (Credit.Cook k) bytes (drop 1 bytes))
 
 -- ---- the whole state
 
@@ -160,10 +181,10 @@ module _ (state : State) (many : length (state .credits) ≡ 99) where
 
   paired : Paired retained parts
   unfolding creditWidths
-  paired = (refl, (length-replicate {A = ℕ} 99 4 ∙ sym many, tt))
+  paired = (refl, (length-replicate {A = ℕ} 99 4 ∙ sym many, (refl, tt)))
 
   all-paired : Paired state stateParts
-  all-paired = (refl, (refl, (paired .1 .0, (refl, tt))))
+  all-paired = (refl, (refl, (paired .1 .0, (refl, (refl, tt)))))
 
   -- power, the record and the rest, written one behind the other
   pub written : (bytes : List ℕ) → length bytes ≡ stateSize
@@ -186,8 +207,8 @@ module _ (state : State) (many : length (state .credits) ≡ 99) where
       let rest = row (restPart .widths) (restPart .numbers state) in
       let own : length (widthsOf parts) ≡ length (numbersIn parts retained) = length-parts retained parts paired in
       let behind : drop 1 (stateBytes state) ≡ row (widthsOf parts ++ restPart .widths) (numbersIn parts retained ++ restPart .numbers state) =
-      λ i. row (positionWidths ++ (sym (append-nil creditWidths) i ++ restPart .widths))
-      (positionNumbers (state .run .position) ++ (sym (append-nil (state .credits)) i ++ restPart .numbers state)) in
+      λ i. row (positionWidths ++ sym (append-assoc creditWidths alarmWidths (restPart .widths)) i)
+      (positionNumbers (state .run .position) ++ sym (append-assoc (state .credits) (alarmNumbers (state .run .alarms)) (restPart .numbers state)) i) in
       ap (take recordSize) (behind ∙ sym (row-append (widthsOf parts) (numbersIn parts retained) (restPart .widths) (restPart .numbers state) own))
       ∙ take-at (recordOf retained) rest recordSize (length-row (widthsOf parts) (numbersIn parts retained) own)
 

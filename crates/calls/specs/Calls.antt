@@ -2,8 +2,8 @@
 -- Assumes nothing.
 use Prim.Native.Nat.{ℕ}
 use mathlib.Core.Path.{_≡_}
-use mathlib.Core.Bool.{Bool, true, cond}
-use mathlib.Core.List.{List}
+use mathlib.Core.Bool.{Bool, true, cond, not}
+use mathlib.Core.List.{List, _∷_}
 use lib.Dec.{eqb}
 use lib.IntN.{ℤ}
 use lib.ListN.{length}
@@ -11,19 +11,24 @@ use Rattle.field.specs.Field.{field}
 use Rattle.field.specs.Tab.{tab}
 use Rattle.setting.specs.Setting.{settingsAt}
 use Rattle.setting.specs.Found.{unless, numbersOf as bankNumbers}
-use Rattle.setting.specs.declared.Checked.{Checked}
 use Rattle.bank.specs.View.{stepAt}
 use Rattle.bank.specs.Check.{foundIn}
 use Rattle.writer.specs.declared.Patterns.{Patterns}
 use Rattle.writer.specs.Write.{After as Wrote, writeOf}
 use Rattle.position.specs.Tests.{both}
+use Rattle.alarm.specs.Alarm.{allInRange}
+use Rattle.plain.specs.declared.Config.{Config}
 use Rattle.plain.specs.declared.Asked.{Asked}
+use Rattle.plain.specs.declared.Refusal.{Refusal}
 use Rattle.plain.specs.Record.{sized}
-use Rattle.plain.specs.Setup.{Setup}
-use Rattle.plain.specs.Event.{After as Left, final}
+use Rattle.plain.specs.Setup.{Setup, over, Usable}
+use Rattle.plain.specs.Answer.{numberOf}
+use Rattle.plain.specs.Refusals.{judged, callRows}
+use Rattle.plain.specs.Event.{After as Left, retainedIn, final}
 use Rattle.plain.specs.Listed.{eventOfKind, eventsIn, formed}
 use Rattle.demand.specs.Demand.{Demand3}
 use Rattle.calls.specs.Result.{packed, resultOf}
+use Rattle.calls.specs.Config.{configSized, configIn}
 use Rattle.calls.specs.Carried.{AfterCarried, stateBytes, stateIn, roomy, makeCarried, eventCarried}
 
 -- ---- cook_check
@@ -66,32 +71,47 @@ after result store state = record { result = result; store = store; state = stat
 abbrev pub resulting : AfterCarried → After
 resulting left = after (resultOf (left .answer)) (left .store) (left .bytes)
 
+-- a config of another length is 99, before all else
+abbrev pub configured : List ℕ → List ℕ → List ℕ → List ℕ → (Setup → After) → After
+configured bank config store state leaves = cond (configSized config) (leaves (over bank (configIn config))) (after 99 store state)
+
 -- ---- cook_make
 
-unfoldable pub makeLeaves : Setup → List ℕ → List ℕ → After
-makeLeaves setup store state = resulting (makeCarried setup store state)
+abbrev pub makeOver : List ℕ → List ℕ → Setup → After
+makeOver store state setup = resulting (makeCarried setup store state)
+
+unfoldable pub makeLeaves : List ℕ → List ℕ → List ℕ → List ℕ → After
+makeLeaves bank config store state = configured bank config store state (makeOver store state)
 
 -- ---- cook_event: a kind above 14 is 99
 
-abbrev pub askedLeaves : Setup → List ℕ → List ℕ → Asked → After
-askedLeaves setup store state Asked.NoForm = after 99 store state
-askedLeaves setup store state (Asked.Of event) = resulting (eventCarried setup store state event)
+abbrev pub askedOver : List ℕ → List ℕ → Asked → Setup → After
+askedOver store state Asked.NoForm setup = after 99 store state
+askedOver store state (Asked.Of event) setup = resulting (eventCarried setup store state event)
 
-unfoldable pub eventLeaves : Setup → List ℕ → List ℕ → ℕ → ℤ → After
-eventLeaves setup store state kind v = askedLeaves setup store state (eventOfKind kind v)
+unfoldable pub eventLeaves : List ℕ → List ℕ → List ℕ → List ℕ → ℕ → ℤ → After
+eventLeaves bank config store state kind v = configured bank config store state (askedOver store state (eventOfKind kind v))
 
--- ---- cook_run: bytes that are no list are 99, a state buffer of another length is 21, a record of another length 22; else the state and
--- record after the list, and its last answer
+-- ---- cook_run: bytes that are no list are 99, a state buffer of another length is 21; else making's refusals, or the state and record after
+-- the list, and its last answer
 
 unfoldable pub listLeaves : Left → After
 listLeaves left = after (resultOf (left .answer)) (left .store) (stateBytes (left .state))
 
-unfoldable pub runLeaves : Setup → List ℕ → List ℕ → List ℕ → After
-runLeaves setup store state events =
+-- no row of those refusals is met: the buffers have their lengths, the settings are in range
+unfoldable pub fitting : Config → List ℕ → List ℕ → Bool
+fitting config store state = both (both (roomy state) (sized store)) (allInRange (config .alarms))
+
+unfoldable pub runOver : List ℕ → List ℕ → List ℕ → Setup → After
+runOver store state events setup =
     cond (formed events)
     (unless (foundIn (setup .bank)) (λ found. after (packed (bankNumbers found)) store state)
-    (cond (roomy state) (cond (sized store) (listLeaves (final setup store (eventsIn events))) (after 22 store state)) (after 21 store state)))
+    (judged ((Refusal.Unsound, not (roomy state)) ∷ callRows setup (retainedIn setup store)) (λ refusal. after (numberOf refusal) store state)
+    (listLeaves (final setup store (eventsIn events)))))
     (after 99 store state)
+
+unfoldable pub runLeaves : List ℕ → List ℕ → List ℕ → List ℕ → List ℕ → After
+runLeaves bank config store state events = configured bank config store state (runOver store state events)
 
 -- demand 3 of what it leaves: where all of that passes, what the buffers hold and the result says is a state, a record and an answer that
 -- meet it, and the state's bytes read back are that state
@@ -101,6 +121,7 @@ pub record Replayed (setup : Setup) (events : List ℕ) (left : After) : Type 0 
   pub is : left ≡ listLeaves of
   pub read : stateIn (left .state) ≡ of .state
 
-abbrev pub RunMeets : Setup → List ℕ → List ℕ → List ℕ → After → Type 0
-RunMeets setup store state events left =
-    foundIn (setup .bank) ≡ Checked.Accepted → sized store ≡ true → roomy state ≡ true → formed events ≡ true → Replayed setup events left
+abbrev pub RunMeets : List ℕ → List ℕ → List ℕ → List ℕ → List ℕ → After → Type 0
+RunMeets bank config store state events left =
+    configSized config ≡ true → Usable (over bank (configIn config)) → sized store ≡ true → roomy state ≡ true → formed events ≡ true
+    → Replayed (over bank (configIn config)) events left

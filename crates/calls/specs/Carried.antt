@@ -15,11 +15,11 @@ use Rattle.position.specs.Tests.{both}
 use Rattle.plain.specs.declared.Answer.{Answer}
 use Rattle.plain.specs.declared.Event.{Event}
 use Rattle.plain.specs.declared.Refusal.{Refusal}
-use Rattle.plain.specs.Record.{Part, widthsOf, sizeOf, numbersIn, Checkpoint, parts, recordSize, positionIn, creditsIn}
+use Rattle.plain.specs.Record.{Part, widthsOf, sizeOf, numbersIn, Checkpoint, parts, recordSize, positionIn, creditsIn, alarmsIn}
 use Rattle.plain.specs.Setup.{Setup}
 use Rattle.plain.specs.Answer.{isAccepted}
 use Rattle.plain.specs.Refusals.{checked}
-use Rattle.plain.specs.Event.{State, After, eventOutcome, makeOutcome}
+use Rattle.plain.specs.Event.{State, After, checkpointFor, eventOutcome, makeOutcome}
 
 -- ---- the bytes of a state
 
@@ -38,7 +38,7 @@ bitsOf (Measured.Value y) = toBits binary64 y
 
 -- what the record has of a state
 abbrev pub checkpointOf : State → Checkpoint
-checkpointOf state = record { position = state .run .position; credits = state .credits }
+checkpointOf state = checkpointFor (state .run) (state .credits)
 
 abbrev pub ofState : Part Checkpoint → Part State
 ofState part = record { widths = part .widths; numbers = λ state. part .numbers (checkpointOf state) }
@@ -83,6 +83,7 @@ stateIn bytes =
             position = positionIn (drop 1 bytes);
             unsaved = field 1 bytes restFrom;
             measured = measuredAs (field 1 bytes (restFrom + 1)) (field 8 bytes (restFrom + 2));
+            alarms = alarmsIn (drop 1 bytes);
           };
       credits = creditsIn (drop 1 bytes);
     }

@@ -7,6 +7,7 @@ use mathlib.Core.List.{List, [], _∷_}
 use lib.ListN.{length, drop}
 use Rattle.field.specs.Row.{row}
 use Rattle.position.specs.declared.Position.{Position}
+use Rattle.alarm.specs.declared.Alarms.{Alarms}
 use Rattle.plain.specs.declared.Run.{Run}
 use Rattle.plain.specs.declared.Credit.{Credit}
 use Rattle.plain.specs.declared.Effect.{Effect}
@@ -19,10 +20,10 @@ use Rattle.calls.specs.Carried.{AfterCarried, afterCarried, kindOf, bitsOf, sta
 abbrev pub restBytes : Run → List ℕ
 restBytes run = row (1 ∷ 1 ∷ 8 ∷ []) (run .unsaved ∷ kindOf (run .measured) ∷ bitsOf (run .measured) ∷ [])
 
--- the record's part: a position, and what becomes of the credits that stand there
-abbrev pub retainedBytes : Position → Credit → List ℕ → List ℕ → List ℕ
-retainedBytes position credit store bytes =
-    recordOf (record { position = position; credits = credited credit (creditsIn store) (creditsIn (drop 1 bytes)) })
+-- the record's part: a position, what becomes of the credits that stand there, and the alarms
+abbrev pub retainedBytes : Position → Credit → Alarms → List ℕ → List ℕ → List ℕ
+retainedBytes position credit alarms store bytes =
+    recordOf (record { position = position; credits = credited credit (creditsIn store) (creditsIn (drop 1 bytes)); alarms = alarms })
 
 -- what an effect leaves of a record, and of the state that bytes are
 abbrev pub carriedBy : List ℕ → List ℕ → Effect → AfterCarried

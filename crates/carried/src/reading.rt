@@ -1,12 +1,13 @@
 // The state that bytes are.
 ghost use mathlib.Core.Path.{_≡_};
 ghost use lib.ListN.{drop};
-ghost use Rattle.plain.specs.Record.{positionIn};
+ghost use Rattle.plain.specs.Record.{positionIn, alarmsIn};
 ghost use Rattle.calls.specs.Carried.{stateIn, isState};
 use crate::REST;
 use crate::SIZE;
 use crate::value::is_nan;
 use crate::value::measured_as;
+use alarm::Alarms;
 use field::byte;
 use field::quad;
 use plain::Run;
@@ -22,6 +23,16 @@ fn position_in(bytes: &[u8]) -> Position
     checkpoint::read_position(&bytes[1..])
 }
 
+// The alarms, in the record's place.
+fn alarms_in(bytes: &[u8]) -> Alarms
+    ensures { λ result. ⌜ result ≡ alarmsIn (drop 1 (now (bytes .entry))) ⌝ }
+{
+    if bytes.len() < 1 {
+        return checkpoint::read_alarms(bytes);
+    }
+    checkpoint::read_alarms(&bytes[1..])
+}
+
 // The run. Bytes past the end read as 0.
 pub fn run_in(bytes: &[u8]) -> Run
     ensures { λ result. ⌜ result ≡ stateIn (now (bytes .entry)) .run ⌝ }
@@ -30,6 +41,7 @@ pub fn run_in(bytes: &[u8]) -> Run
         position: position_in(bytes),
         unsaved: byte(bytes, REST),
         measured: measured_as(byte(bytes, REST + 1), quad(bytes, REST + 2)),
+        alarms: alarms_in(bytes),
     }
 }
 

@@ -3,14 +3,18 @@ ghost use mathlib.Core.Path.{_≡_};
 ghost use lib.ListN.{length, drop};
 ghost use lib.Seq.{sets};
 ghost use Rattle.field.specs.Row.{row};
-ghost use Rattle.plain.specs.Record.{positionWidths, positionNumbers, creditWidths, recordOf, creditsIn};
+ghost use Prim.Native.Nat.{_+_};
+ghost use Rattle.alarm.specs.Part.{alarmWidths, alarmNumbers};
+ghost use Rattle.plain.specs.Record.{positionWidths, positionNumbers, creditWidths, alarmsFrom, recordOf, creditsIn};
 ghost use Rattle.plain.specs.Run.{cooked};
 ghost use Rattle.calls.specs.Carried.{stateSize, restFrom};
 ghost use Rattle.carried.specs.Bytes.{restBytes, retainedBytes};
+use crate::ALARMS;
 use crate::CREDITS;
 use crate::REST;
 use crate::value::bits_of;
 use crate::value::kind_of;
+use alarm::Alarms;
 use plain::Credit;
 use plain::Run;
 use position::Position;
@@ -25,12 +29,20 @@ fn put_position(bytes: &mut [u8], position: Position)
     checkpoint::write_position(bytes, 1, position);
 }
 
-// Position and credits, in their place.
-pub fn put_record(bytes: &mut [u8], position: Position, credits: [u32; 99])
+// The alarms, in their place.
+fn put_alarms(bytes: &mut [u8], alarms: Alarms)
     requires { ⌜ length (now bytes) ≡ stateSize ⌝ }
-    ensures { λ _. ⌜ now (bytes .exit) ≡ sets (now (bytes .entry)) 1 (recordOf (record { position = position; credits = credits })) ⌝ }
+    ensures { λ _. ⌜ now (bytes .exit) ≡ sets (now (bytes .entry)) (1 + alarmsFrom) (row alarmWidths (alarmNumbers alarms)) ⌝ }
 {
-    checkpoint::write(&mut bytes[1..REST], position, credits);
+    checkpoint::write_alarms(bytes, ALARMS, alarms);
+}
+
+// Position, credits and alarms, in their place.
+pub fn put_record(bytes: &mut [u8], position: Position, credits: [u32; 99], alarms: Alarms)
+    requires { ⌜ length (now bytes) ≡ stateSize ⌝ }
+    ensures { λ _. ⌜ now (bytes .exit) ≡ sets (now (bytes .entry)) 1 (recordOf (record { position = position; credits = credits; alarms = alarms })) ⌝ }
+{
+    checkpoint::write(&mut bytes[1..REST], position, credits, alarms);
 }
 
 // The credit of step k gains 1, and no other is touched.
@@ -47,21 +59,31 @@ fn cook(bytes: &mut [u8], k: u8)
     stored::put(bytes, at, 4, one_more(credit) as u64);
 }
 
-// The position, and what becomes of the credits.
-pub fn put_retained(bytes: &mut [u8], store: &[u8], position: Position, credit: Credit)
+// The position, what becomes of the credits, and the alarms.
+pub fn put_retained(
+    bytes: &mut [u8],
+    store: &[u8],
+    position: Position,
+    credit: Credit,
+    alarms: Alarms,
+)
     requires { ⌜ length (now bytes) ≡ stateSize ⌝ }
-    ensures { λ _. ⌜ now (bytes .exit) ≡ sets (now (bytes .entry)) 1 (retainedBytes position credit (now (store .entry)) (now (bytes .entry))) ⌝ }
+    ensures { λ _. ⌜ now (bytes .exit) ≡ sets (now (bytes .entry)) 1 (retainedBytes position credit alarms (now (store .entry)) (now (bytes .entry))) ⌝ }
 {
     match credit {
-        Credit::Keep => put_position(bytes, position),
+        Credit::Keep => {
+            put_position(bytes, position);
+            put_alarms(bytes, alarms);
+        }
         Credit::Cook(k) => {
             put_position(bytes, position);
             cook(bytes, k);
+            put_alarms(bytes, alarms);
         }
-        Credit::Clear => put_record(bytes, position, [0; 99]),
+        Credit::Clear => put_record(bytes, position, [0; 99], alarms),
         Credit::Restore => {
             let recorded = checkpoint::read_credits(store);
-            put_record(bytes, position, recorded);
+            put_record(bytes, position, recorded, alarms);
         }
     }
 }
@@ -75,16 +97,4 @@ pub fn put_rest(bytes: &mut [u8], run: Run)
     bytes[REST] = run.unsaved;
     bytes[REST + 1] = kind_of(measured);
     stored::put(bytes, REST + 2, 8, bits_of(measured));
-}
-
-// The record is written whole: it is a part of a state's bytes.
-pub fn copy(store: &mut [u8], part: &[u8])
-    requires { ⌜ length (now part) ≡ length (now store) ⌝ }
-    ensures { λ _. ⌜ now (store .exit) ≡ now (part .entry) ⌝ }
-{
-    let mut i: usize = 0;
-    while i < store.len() {
-        store[i] = part[i];
-        i += 1;
-    }
 }

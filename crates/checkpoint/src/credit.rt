@@ -4,16 +4,16 @@ ghost use Prim.Native.Nat.{_-_, _/_, _≤_, min};
 ghost use lib.ListN.{length};
 ghost use lib.Seq.{sets};
 ghost use Rattle.field.specs.Row.{row};
-ghost use Rattle.plain.specs.Record.{creditWidths, recordSize, creditsIn};
+ghost use Rattle.plain.specs.Record.{creditWidths, alarmsFrom, creditsIn};
+use crate::ALARMS;
 use crate::CREDITS;
-use crate::SIZE;
 use field::join4;
 
 // How many of the credits have all their bytes in a record of a size.
 fn whole_credits(size: usize) -> usize
     ensures { λ result. ⌜ result ≡ min 99 ((size - 15) / 4) ⌝ }
 {
-    if SIZE <= size {
+    if ALARMS <= size {
         return 99;
     }
     if size < CREDITS {
@@ -43,7 +43,7 @@ pub fn credits(store: &[u8]) -> [u32; 99]
 
 // The credits are written.
 pub fn put_credits(store: &mut [u8], credits: [u32; 99])
-    requires { ⌜ recordSize ≤ length (now store) ⌝ }
+    requires { ⌜ alarmsFrom ≤ length (now store) ⌝ }
     ensures { λ _. ⌜ now (store .exit) ≡ sets (now (store .entry)) 15 (row creditWidths credits) ⌝ }
 {
     let mut i: usize = 0;

@@ -1,25 +1,25 @@
--- Demand 3 holds, for every accepted bank, every record buffer of the record's size and every list of events.
+-- Demand 3 holds, for every accepted bank with settings in range, every record buffer of the record's size and every list of events.
 -- Assumes nothing.
 use mathlib.Core.Path.{_≡_, refl, sym, ap, _∙_}
 use mathlib.Core.Bool.{Bool, true, false, not, true≢false, false≢true}
 use mathlib.Core.List.{List, [], _∷_, map}
-use Prim.Native.Nat.{ℕ, _-_, _<_}
+use Prim.Native.Nat.{ℕ, _-_}
 use native.Mathlib.Omega.{arith}
 use lib.IntN.{ℤ, pos, natAbs}
 use lib.ListN.{getD}
 use Rattle.setting.specs.Found.{numbersOf as bankNumbers, isAccepted as passes}
 use Rattle.setting.specs.declared.Checked.{Checked}
-use Rattle.setting.specs.declared.Checked.the-variants.{Accepted}
 use Rattle.bank.specs.Check.{foundIn}
 use Rattle.measure.specs.Filter.{outsideOf}
 use Rattle.position.proofs.Tests.{choice}
+use Rattle.alarm.specs.Alarm.{allInRange}
 use Rattle.outage.specs.Outage.{Power, on, off, Held, start, off-back, step, steps}
 use Rattle.outage.proofs.Theorem as theorem
 use Rattle.plain.specs.declared.Event.{Event}
 use Rattle.plain.specs.declared.Answer.{Answer}
 use Rattle.plain.specs.declared.Effect.{Effect}
 use Rattle.plain.specs.Record.{sized}
-use Rattle.plain.specs.Setup.{Setup}
+use Rattle.plain.specs.Setup.{Setup, Usable}
 use Rattle.plain.specs.Answer.{numberOf, numbersOf}
 use Rattle.plain.specs.Run.{shownIn}
 use Rattle.plain.specs.Event.{State, dark, After, after, recordFor, retainedIn, eventOutcome, makeOutcome, eventsFrom, final}
@@ -32,7 +32,7 @@ use Rattle.demand.specs.Demand.{remaining, onAfter, replayed, lastSaved,
 
 -- ---- a list is a list of steps
 
-module _ (setup : Setup) (ok : foundIn (setup .bank) ≡ Accepted) where
+module _ (setup : Setup) (ok : Usable setup) where
   list : (held : Held (machine setup)) (events : List Event) → GoodHeld setup ok held
       → eventsFrom setup (view setup ok held) events ≡ view setup ok (steps (machine setup) held (map listed events))
   unfolding eventsFrom steps view
@@ -53,7 +53,7 @@ module _ (setup : Setup) (ok : foundIn (setup .bank) ≡ Accepted) where
 Below : Answer → Type 0
 Below (Answer.Accepted shown) = Unit {0}
 Below (Answer.Bank found) = Unit {0}
-Below (Answer.Refused refusal) = numberOf refusal < 31
+Below (Answer.Refused refusal) = numberOf refusal ≡ 31 → ⊥
 
 not-31 : (answer : Answer) → Below answer → numbersOf answer ≡ pos 31 ∷ [] → ⊥
 unfolding numbersOf bankNumbers Below
@@ -69,7 +69,7 @@ not-31 answer low holds = go answer low (ap (λ (xs : List ℤ). natAbs (getD xs
     go : (answer : Answer) → Below answer → natAbs (getD (numbersOf answer) 0 (pos 0)) ≡ 31 → ⊥
     go (Answer.Accepted shown) low holds = omega arith
     go (Answer.Bank found) low holds = bank found holds
-    go (Answer.Refused refusal) low holds = omega arith
+    go (Answer.Refused refusal) low holds = low holds
 
 module _ (setup : Setup) where
   below-one : (power : Power (machine setup)) (store : List ℕ) (event : Event) → Below (step (machine setup) power store (listed event) .answer)
@@ -79,14 +79,14 @@ module _ (setup : Setup) where
   below-one (on live) store (Event.Press command) =
       by-press setup (live .run) (λ (effect : Effect). Below (effect .answer)) (λ _ lower. lower) command (λ _ _. tt)
   below-one (on live) store Event.Cut = tt
-  below-one (on live) store (Event.Return reading) = omega arith
-  below-one off store (Event.Tick reading) = omega arith
-  below-one off store (Event.Press command) = omega arith
-  below-one off store Event.Cut = omega arith
+  below-one (on live) store (Event.Return reading) = λ number. omega (arith, number)
+  below-one off store (Event.Tick reading) = λ number. omega (arith, number)
+  below-one off store (Event.Press command) = λ number. omega (arith, number)
+  below-one off store Event.Cut = λ number. omega (arith, number)
   below-one off store (Event.Return reading) = go (outsideOf reading)
     where
       go : (test : Bool) → Below (off-back (machine setup) (not test) store reading .answer)
-      go true = omega arith
+      go true = λ number. omega (arith, number)
       go false = tt
 
   below-all : (held : Held (machine setup)) (events : List Event) → Below (held .answer) → Below (steps (machine setup) held (map listed events) .answer)
@@ -109,7 +109,8 @@ module _ (setup : Setup) where
   made-numbered : (store : List ℕ) → Numbered (makeOutcome setup store)
   unfolding makeOutcome retainedIn
   made-numbered store =
-      choice Numbered (passes (foundIn (setup .bank))) (λ _. choice Numbered (not (sized store)) (λ _. refl) (λ _. refl)) (λ _. refl)
+      choice Numbered (passes (foundIn (setup .bank)))
+      (λ _. choice Numbered (not (sized store)) (λ _. refl) (λ _. choice Numbered (not (allInRange (setup .config .alarms))) (λ _. refl) (λ _. refl))) (λ _. refl)
 
   pub final-is : (store : List ℕ) (events : List Event)
       → let left = final setup store events in after (left .state) (left .store) (left .answer) ≡ left
@@ -125,7 +126,7 @@ module _ (setup : Setup) where
 
 -- ---- demand 3
 
-module _ (setup : Setup) (store : List ℕ) (ok : foundIn (setup .bank) ≡ Accepted) (whole : sized store ≡ true) (events : List Event) where
+module _ (setup : Setup) (store : List ℕ) (ok : Usable setup) (whole : sized store ≡ true) (events : List Event) where
   -- the machine after the list
   last : Held (machine setup)
   last = steps (machine setup) (start (machine setup)) (map listed events)
@@ -168,12 +169,13 @@ module _ (setup : Setup) (store : List ℕ) (ok : foundIn (setup .bank) ≡ Acce
         position = ap (λ (other : State). other .run .position) same;
         unsaved = ap (λ (other : State). other .run .unsaved) same;
         measured = ap (λ (other : State). other .run .measured) same;
+        alarms = ap (λ (other : State). other .run .alarms) same;
         credits = ap (λ (other : State). other .credits) same;
         shown = ap (λ (other : State). shownIn setup (other .run)) same;
         answer = ap (λ (left : After). left .answer) seen ∙ ended .is-answer powered-on;
         ticks = λ k lower _.
             ap (λ (other : State). getD (other .credits) (k - 1) 0) same ∙ credit-is (replayed setup events .0 .credits) k lower
-            ∙ credits-are setup ok (remaining setup events) k;
+            ∙ credits-are setup (ok .bank) (remaining setup events) k;
       }
 
   -- the record is that of a good state

@@ -1,4 +1,4 @@
--- Demand 3, as a statement about every accepted bank, every record buffer of the record's size and every list of events.
+-- Demand 3, as a statement about every accepted bank with settings in range, every record buffer of the record's size and every list of events.
 -- Assumes nothing.
 use mathlib.Core.Path.{_≡_}
 use mathlib.Core.Bool.{Bool, true, false}
@@ -43,6 +43,7 @@ module _ (setup : Setup) (events : List Event) where
       pub position : left .state .run .position ≡ replayed .0 .run .position
       pub unsaved : left .state .run .unsaved ≡ replayed .0 .run .unsaved
       pub measured : left .state .run .measured ≡ replayed .0 .run .measured
+      pub alarms : left .state .run .alarms ≡ replayed .0 .run .alarms
       pub credits : left .state .credits ≡ replayed .0 .credits
       pub shown : shownIn setup (left .state .run) ≡ shownIn setup (replayed .0 .run)
       pub answer : left .answer ≡ replayed .1

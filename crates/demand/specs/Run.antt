@@ -5,13 +5,11 @@ use mathlib.Core.Path.{_≡_}
 use mathlib.Core.Bool.{true, cond}
 use mathlib.Core.List.{List}
 use lib.IntN.{ℤ}
-use Rattle.setting.specs.declared.Checked.{Checked}
-use Rattle.bank.specs.Check.{foundIn}
 use Rattle.plain.specs.declared.Answer.{Answer}
 use Rattle.plain.specs.declared.Refusal.{Refusal}
 use Rattle.plain.specs.declared.Reply.{Reply}
 use Rattle.plain.specs.Record.{sized}
-use Rattle.plain.specs.Setup.{Setup}
+use Rattle.plain.specs.Setup.{Setup, Usable}
 use Rattle.plain.specs.Answer.{replyNumbers}
 use Rattle.plain.specs.Event.{State, After, after, dark, final}
 use Rattle.plain.specs.Listed.{eventsIn, formed}
@@ -39,8 +37,8 @@ unfoldable pub answerIn : Reply → Answer
 answerIn Reply.NoForm = Answer.Refused Refusal.Unsound
 answerIn (Reply.Given answer) = answer
 
--- demand 3 of what a run leaves, over an accepted bank, a record of its size and bytes that are a list
+-- demand 3 of what a run leaves, over an accepted bank with settings in range, a record of its size and bytes that are a list
 abbrev pub Meets : Setup → List ℕ → List ℕ → AfterRun → Type 0
 Meets setup store bytes left =
-    foundIn (setup .bank) ≡ Checked.Accepted → sized store ≡ true → formed bytes ≡ true
+    Usable setup → sized store ≡ true → formed bytes ≡ true
     → Demand3 setup (eventsIn bytes) (after (left .state) (left .store) (answerIn (left .reply)))

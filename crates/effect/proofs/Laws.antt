@@ -1,6 +1,6 @@
 -- Facts about the tests that the code makes, and about cases that only the other arms of a `match` know.
 -- Assumes nothing.
-use mathlib.Core.Path.{_≡_, refl, sym, ap}
+use mathlib.Core.Path.{_≡_, refl, sym, ap, _∙_}
 use mathlib.Core.Bool.{Bool, true, false, not, _&&_, false≢true}
 use mathlib.Core.List.{List, [], _∷_}
 use mathlib.Core.Logic.{⊎-elim}
@@ -10,27 +10,43 @@ use borrow.Author.Tests.{ltb-true}
 use denote.Enum.Declared.{tagOf}
 use types.Run.{OneOf}
 use lib.ListN.{length, set}
+use Rattle.setting.specs.declared.Settings.{Settings}
 use Rattle.setting.proofs.Laws.{both-left, both-right}
 use Rattle.bank.specs.View.{placeOf}
 use Rattle.position.specs.declared.Position.{Position}
+use Rattle.position.specs.declared.Here.{Here}
 use Rattle.position.specs.declared.Command.{Command}
 use Rattle.position.specs.Tests.{both, either, all}
-use Rattle.position.specs.Program.{hereOf}
+use Rattle.position.specs.Program.{hereOf, setValueOf}
 use Rattle.position.specs.Command.{isStart}
 use Rattle.position.proofs.Command.{the-type as command-type}
+use Rattle.measure.specs.Filter.{wholeOf}
+use Rattle.measure.specs.declared.Measured.{Measured}
+use Rattle.alarm.specs.declared.Alarms.{Alarms}
+use Rattle.alarm.specs.Idle.{allIdle}
+use Rattle.alarm.proofs.Short.{idle-leaves}
 use Rattle.plain.specs.declared.Run.{Run}
+use Rattle.plain.specs.declared.Config.{Config}
+use Rattle.plain.specs.declared.Event.{Event}
 use Rattle.plain.specs.declared.Refusal.{Refusal}
-use Rattle.plain.specs.Setup.{Setup, settingsIn, hereIn}
+use Rattle.plain.specs.Setup.{Setup, hereIn}
 use Rattle.plain.specs.Run.{soundBy, soundIn}
-use Rattle.plain.specs.Refusals.{Row, judged, soundState}
+use Rattle.plain.specs.Refusals.{Row, judged, isReturn, soundState}
+use Rattle.effect.specs.Known.{saidAt, Known}
+use Rattle.effect.specs.Done.{alarmsBy, alarmsIf, keepsAlarms, recordBounded, boundedFor}
 
 -- ---- places
 
 -- what is said at a position goes by its pattern and step
-pub same-place : (setup : Setup) (position other : Position) → position .pattern ≡ other .pattern → position .step ≡ other .step
-    → hereIn setup position ≡ hereIn setup other
+pub same-place : (bank : List ℕ) (settings : Settings) (position other : Position) → position .pattern ≡ other .pattern → position .step ≡ other .step
+    → saidAt bank settings position ≡ saidAt bank settings other
+same-place bank settings position other h g = λ i. hereOf settings (placeOf bank (h i) (g i))
+
+-- by the settings of the bank it is what is said over a setup
+pub said-in : (setup : Setup) (position : Position) {settings : Settings} {here : Here} → Known (setup .bank) position settings here
+    → here ≡ hereIn setup position
 unfolding hereIn
-same-place setup position other h g = λ i. hereOf (settingsIn setup) (placeOf (setup .bank) (h i) (g i))
+said-in setup position known = known .here-is ∙ rw (known .settings-are)
 
 -- ---- tests
 
@@ -72,6 +88,41 @@ module _ (setup : Setup) (power : Bool) (run : Run) where
       go : (power : Bool) → power ≡ true → either (not power) (soundIn setup run) ≡ true → soundIn setup run ≡ true
       go true h g = g
       go false h g = absurd (false≢true h)
+
+-- alarms that stay, by either reason
+pub kept-alarms : (accepted idle : Bool) (config : Config) (there : Here) (store : List ℕ) (event : Event) (alarms : Alarms) (position : Position)
+    (measured : Measured) → idle ≡ allIdle (config .alarms) alarms → keepsAlarms accepted idle event ≡ true
+    → alarms ≡ alarmsIf accepted config there store event alarms position measured
+kept-alarms false idle config there store event alarms position measured is keeps = refl
+kept-alarms true true config there store (Event.Tick reading) alarms position measured is keeps =
+    idle-leaves (config .alarms) (position .mode) (wholeOf measured) (setValueOf there position) alarms (sym is)
+kept-alarms true false config there store (Event.Tick reading) alarms position measured is keeps = absurd (false≢true keeps)
+kept-alarms true idle config there store (Event.Press command) alarms position measured is keeps = absurd (false≢true keeps)
+kept-alarms true idle config there store Event.Cut alarms position measured is keeps = absurd (false≢true keeps)
+kept-alarms true idle config there store (Event.Return reading) alarms position measured is keeps = absurd (false≢true keeps)
+
+-- and where they do not, the event is accepted
+pub moved-alarms : (accepted idle : Bool) (config : Config) (there : Here) (store : List ℕ) (event : Event) (alarms : Alarms) (position : Position)
+    (measured : Measured) → keepsAlarms accepted idle event ≡ false
+    → alarmsBy config there store event alarms position measured ≡ alarmsIf accepted config there store event alarms position measured
+moved-alarms true idle config there store event alarms position measured moves = refl
+moved-alarms false idle config there store (Event.Tick reading) alarms position measured moves = absurd (false≢true (sym moves))
+moved-alarms false idle config there store (Event.Press command) alarms position measured moves = absurd (false≢true (sym moves))
+moved-alarms false idle config there store Event.Cut alarms position measured moves = absurd (false≢true (sym moves))
+moved-alarms false idle config there store (Event.Return reading) alarms position measured moves = absurd (false≢true (sym moves))
+
+-- whether the record's alarms are within their bounds is asked for a return alone
+pub return-bounded : (config : Config) (store : List ℕ) (event : Event) → isReturn event ≡ true → recordBounded config store ≡ boundedFor config store event
+return-bounded config store (Event.Tick reading) is = absurd (false≢true is)
+return-bounded config store (Event.Press command) is = absurd (false≢true is)
+return-bounded config store Event.Cut is = absurd (false≢true is)
+return-bounded config store (Event.Return reading) is = refl
+
+pub other-bounded : (config : Config) (store : List ℕ) (event : Event) → isReturn event ≡ false → true ≡ boundedFor config store event
+other-bounded config store (Event.Tick reading) is = refl
+other-bounded config store (Event.Press command) is = refl
+other-bounded config store Event.Cut is = refl
+other-bounded config store (Event.Return reading) is = absurd (false≢true (sym is))
 
 -- ---- refusals
 

@@ -8,6 +8,7 @@ use native.Mathlib.Omega.{arith}
 use Rattle.field.specs.Tab.{tab}
 use Rattle.setting.specs.declared.Settings.{Settings}
 use Rattle.position.specs.declared.Here.{Here}
+use Rattle.alarm.specs.declared.Alarms.{Alarms}
 use Rattle.plain.specs.declared.Answer.{Answer}
 use Rattle.plain.specs.declared.Asked.{Asked}
 use Rattle.plain.specs.declared.Event.{Event}
@@ -19,9 +20,12 @@ use Rattle.plain.specs.Run.{shownIn, credited}
 use Rattle.plain.specs.Event.{State, After, after, recordFor, applied, knownEffect, eventOutcome, makeOutcome, eventsFrom}
 use Rattle.plain.specs.Listed.{askedEvents}
 use Rattle.plain.proofs.Standing.{view, Stands, stands-known, stands-next, stands-made, made, made-begins}
+use Rattle.effect.specs.declared.Done.{Done}
+use Rattle.effect.specs.declared.Moved.{Moved}
 use Rattle.effect.specs.declared.Ran.{Ran}
-use Rattle.effect.specs.Known.{Known, Made}
-use Rattle.effect.specs.Ran.{afterRan}
+use Rattle.effect.specs.Known.{saidAt, Known, Made}
+use Rattle.effect.specs.Done.{withAlarms, answerIn, creditIf, alarmsIf, effectOf, DoesTo}
+use Rattle.effect.specs.Ran.{stateFrom, afterRan}
 
 -- ---- one event
 
@@ -36,6 +40,29 @@ module _ (setup : Setup) (state : State) (store : List ℕ) (stands : Stands set
       ((g ∙ ap (λ (x : List ℕ). cond (effect .saves) (recordFor (effect .run) x) store) h) i) (effect .answer))
       ∙ ap (applied store (state .credits)) is
       ∙ sym (stands-known setup (stands .ok) state store (stands .standing) event)
+
+-- of a list: what is left beside the alarms, and the alarms that become of it
+module _ (setup : Setup) (moved : Moved) (credits store : List ℕ) (stands : Stands setup (stateFrom moved credits) store) (event : Event) (done : Done)
+    (does : DoesTo setup store (moved .power) (moved .progress) event done (moved .alarms)) where
+  abbrev here-left : Here
+  here-left = hereIn setup (done .progress .position)
+
+  abbrev alarmsLeft : Here → Alarms
+  alarmsLeft there = alarmsIf (done .accepted) (setup .config) there store event (moved .alarms) (done .progress .position) (done .progress .measured)
+
+  pub one-turn : (alarms : Alarms) (there : Here) → alarms ≡ alarmsLeft there → there ≡ here-left
+      → (left written : List ℕ) → left ≡ credited (creditIf (done .accepted) event (moved .progress .position)) (creditsIn store) credits
+      → written ≡ cond (done .saves) (recordFor (withAlarms (done .progress) alarms) left) store
+      → after (record { power = done .power; run = withAlarms (done .progress) alarms; credits = left }) written
+      (answerIn setup (done .progress .position) (done .accepted) (done .refusal))
+      ≡ eventOutcome setup store (stateFrom moved credits) event
+  one-turn alarms there h said left written g stored =
+      let is : alarms ≡ alarmsLeft here-left = h ∙ ap alarmsLeft said in
+      let run = withAlarms (moved .progress) (moved .alarms) in
+      (λ i. after (record { power = done .power; run = withAlarms (done .progress) (is i); credits = left }) written
+      (answerIn setup (done .progress .position) (done .accepted) (done .refusal)))
+      ∙ one-event setup (stateFrom moved credits) store stands event (effectOf setup store run event done) does left written g
+      (stored ∙ ap (λ (alarms : Alarms). cond (done .saves) (recordFor (withAlarms (done .progress) alarms) left) store) is)
 
 -- ---- what is asked for, one after the other
 
@@ -57,7 +84,7 @@ module _ (setup : Setup) where
 -- ---- the loop
 
 pub record Walked (setup : Setup) (size : ℕ) (f : ℕ → Asked) (settings : Settings) (here : Here) (whole now : After) (at remaining : ℕ) : Type 0 where
-  pub known : Known setup (now .state .run .position) settings here
+  pub known : Known (setup .bank) (now .state .run .position) settings here
   pub room : at + 5 * remaining ≤ size
   pub stands : Stands setup (now .state) (now .store)
   pub gives : eventsFrom setup now (askedEvents (tab f 5 at remaining)) ≡ whole
@@ -66,7 +93,7 @@ module _ (setup : Setup) (size : ℕ) (f : ℕ → Asked) (settings : Settings) 
     (walked : Walked setup size f settings here whole now at remaining) where
   -- one turn
   pub turned : 0 < remaining → (there : Here) (next : After) → next ≡ eventsFrom setup now (askedEvents (f at ∷ []))
-      → there ≡ hereIn setup (next .state .run .position) → Walked setup size f settings there whole next (at + 5) (remaining - 1)
+      → there ≡ saidAt (setup .bank) settings (next .state .run .position) → Walked setup size f settings there whole next (at + 5) (remaining - 1)
   unfolding tab
   turned l there next h here-is =
       record {

@@ -3,36 +3,41 @@
 use mathlib.Core.Path.{_≡_}
 use mathlib.Core.Bool.{Bool, true}
 use mathlib.Core.List.{List}
-use Prim.Native.Nat.{ℕ, _<_}
+use Prim.Native.Nat.{ℕ}
 use lib.ListN.{length}
+use Rattle.setting.specs.Setting.{settingsAt}
 use Rattle.setting.specs.declared.Settings.{Settings}
 use Rattle.setting.specs.declared.Checked.{Checked}
 use Rattle.bank.specs.Check.{foundIn}
+use Rattle.bank.specs.View.{placeOf}
 use Rattle.position.specs.declared.Position.{Position}
 use Rattle.position.specs.declared.Here.{Here}
+use Rattle.position.specs.Program.{hereOf}
+use Rattle.alarm.specs.Alarm.{allInRange}
 use Rattle.plain.specs.declared.Run.{Run}
 use Rattle.plain.specs.declared.Answer.{Answer}
 use Rattle.plain.specs.Record.{sized}
-use Rattle.plain.specs.Setup.{Setup, settingsIn, hereIn}
+use Rattle.plain.specs.Setup.{Setup}
 use Rattle.plain.specs.Run.{shownIn}
 use Rattle.plain.specs.Refusals.{soundState}
 use Rattle.plain.specs.Event.{State}
 use Rattle.plain.proofs.Standing.{Stands}
 use Rattle.effect.specs.declared.Ran.{Ran}
 
+-- what a bank says at a position, by its settings
+abbrev pub saidAt : List ℕ → Settings → Position → Here
+saidAt bank settings position = hereOf settings (placeOf bank (position .pattern) (position .step))
+
 -- the settings, and what is said at a position
-pub record Known (setup : Setup) (position : Position) (settings : Settings) (here : Here) : Type 0 where
-  pub settings-are : settings ≡ settingsIn setup
-  pub here-is : here ≡ hereIn setup position
+pub record Known (bank : List ℕ) (position : Position) (settings : Settings) (here : Here) : Type 0 where
+  pub settings-are : settings ≡ settingsAt bank
+  pub here-is : here ≡ saidAt bank settings position
 
--- those of a sound state
+-- those of a sound state, and alarm settings in range
 pub record Sound (setup : Setup) (power : Bool) (run : Run) (settings : Settings) (here : Here) : Type 0 where
-  pub known : Known setup (run .position) settings here
+  pub known : Known (setup .bank) (run .position) settings here
   pub sound : soundState setup power run ≡ true
-
--- with power on u is below 60
-abbrev pub Few : Bool → Run → Type 0
-Few power run = power ≡ true → run .unsaved < 60
+  pub alarms : allInRange (setup .config .alarms) ≡ true
 
 -- and a record of its size
 pub record Ready (setup : Setup) (store : List ℕ) (power : Bool) (run : Run) (settings : Settings) (here : Here) : Type 0 where
@@ -40,19 +45,13 @@ pub record Ready (setup : Setup) (store : List ℕ) (power : Bool) (run : Run) (
   pub whole : sized store ≡ true
 
 -- an accepted bank, and a record of its size
-pub record Begins (setup : Setup) (store : List ℕ) : Type 0 where
-  pub ok : foundIn (setup .bank) ≡ Checked.Accepted
-  pub whole : sized store ≡ true
-
--- the settings, a sound state, and a record of its size
-pub record Returns (setup : Setup) (store : List ℕ) (power : Bool) (run : Run) (settings : Settings) : Type 0 where
-  pub settings-are : settings ≡ settingsIn setup
-  pub sound : soundState setup power run ≡ true
+pub record Begins (bank store : List ℕ) : Type 0 where
+  pub ok : foundIn bank ≡ Checked.Accepted
   pub whole : sized store ≡ true
 
 -- what is known within a list of events
 pub record Within (setup : Setup) (settings : Settings) (here : Here) (state : State) (store : List ℕ) : Type 0 where
-  pub known : Known setup (state .run .position) settings here
+  pub known : Known (setup .bank) (state .run .position) settings here
   pub stands : Stands setup state store
   pub long : length (state .credits) ≡ 99
 

@@ -1,10 +1,8 @@
 // What a call begins with: a fresh controller, or none.
 ghost use mathlib.Core.Path.{_≡_};
-ghost use Rattle.plain.specs.Setup.{over};
 ghost use Rattle.plain.specs.Run.{freshRun};
-ghost use Rattle.plain.specs.Event.{makeOutcome};
 ghost use Rattle.effect.specs.Known.{Begins};
-ghost use Rattle.effect.specs.Ran.{afterRan, darkRan as darkOf};
+ghost use Rattle.effect.specs.Ran.{afterRan, IsMade, darkRan as darkOf};
 use crate::Ran;
 use crate::credits::save;
 use measure::Measured;
@@ -41,18 +39,19 @@ fn fresh_run() -> Run
         },
         unsaved: 0,
         measured: Measured::NoReading,
+        alarms: bounds::cleared(),
     }
 }
 
 // The fresh controller, which is saved.
 pub fn begin(bank: &[u8], store: &mut [u8]) -> Ran
-    requires { ⌜ Begins (over (now bank)) (now store) ⌝ }
-    ensures { λ result. ⌜ afterRan result (now (store .exit)) ≡ makeOutcome (over (now (bank .entry))) (now (store .entry)) ⌝ }
+    requires { ⌜ Begins (now bank) (now store) ⌝ }
+    ensures { λ result. ⌜ IsMade (now (bank .entry)) (now (store .entry)) (afterRan result (now (store .exit))) ⌝ }
 {
     let run = fresh_run();
     let position = run.position;
     let credits = [0u32; 99];
-    save(store, position, credits);
+    save(store, position, credits, run.alarms);
     let settings = setting::read_settings(bank);
     let here = program::here_at(bank, settings, position.pattern, position.step);
     let values = program::shown(settings, here, position);

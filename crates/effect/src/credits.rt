@@ -4,6 +4,7 @@ ghost use mathlib.Core.Bool.{true};
 ghost use lib.ListN.{length};
 ghost use Rattle.plain.specs.Record.{recordOf, creditsIn, sized};
 ghost use Rattle.plain.specs.Run.{credited};
+use alarm::Alarms;
 use plain::Credit;
 use position::Position;
 use run::one_more;
@@ -33,10 +34,10 @@ pub fn settle(credits: &mut [u32; 99], store: &[u8], credit: Credit)
     }
 }
 
-// The record of a position and credits is written whole.
-pub fn save(store: &mut [u8], position: Position, credits: [u32; 99])
+// The record of a position, credits and alarms is written whole.
+pub fn save(store: &mut [u8], position: Position, credits: [u32; 99], alarms: Alarms)
     requires { ⌜ sized (now store) ≡ true ⌝ }
-    ensures { λ _. ⌜ now (store .exit) ≡ recordOf (record { position = position; credits = credits }) ⌝ }
+    ensures { λ _. ⌜ now (store .exit) ≡ recordOf (record { position = position; credits = credits; alarms = alarms }) ⌝ }
 {
-    checkpoint::write(store, position, credits);
+    checkpoint::write(store, position, credits, alarms);
 }

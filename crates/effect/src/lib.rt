@@ -7,16 +7,20 @@ ghost use Rattle.effect.specs.Ran.{afterRan};
 use crate::begin::begin;
 use crate::begin::dark;
 pub use crate::events::event;
+use alarm::Alarms;
 use checkpoint::SIZE;
+use measure::Measured;
 use plain::Answer;
-use plain::Credit;
+use plain::Config;
 use plain::Refusal;
 use plain::Run;
 use position::Here;
+use position::Position;
 use setting::Checked;
 
 mod answers;
 mod begin;
+mod beside;
 mod credits;
 mod events;
 mod list;
@@ -24,27 +28,30 @@ mod press;
 mod restore;
 mod tick;
 
-// An answer before what it shows is looked up.
-enum Told {
-    Accepted,
-    Refused(Refusal),
+// A run without its alarms.
+struct Progress {
+    position: Position,
+    unsaved: u8, // u, ticks since the last save
+    measured: Measured,
 }
 
-// What an event does, without what it shows.
+// What an event does, without what it shows and what becomes of credits and alarms.
 struct Done {
     power: bool,
-    run: Run,
-    credit: Credit,
+    progress: Progress,
     saves: bool,
-    told: Told,
+    accepted: bool,
+    refusal: Refusal, // if it is not accepted
 }
 
-// What goes from one event of a list to the next; `here` is what is said at the run's position.
+// What goes from one event of a list to the next; `here` is what is said at the position.
 struct Moved {
-    power: bool,
-    run: Run,
+    progress: Progress,
+    alarms: Alarms,
     here: Here,
-    told: Told,
+    power: bool,
+    accepted: bool,
+    refusal: Refusal, // if the event is not accepted
 }
 
 // What a call leaves beside the record.
@@ -56,8 +63,8 @@ pub struct Ran {
 }
 
 // A controller is made: it is fresh, and saves.
-pub fn make(bank: &[u8], store: &mut [u8]) -> Ran
-    ensures { λ result. ⌜ afterRan result (now (store .exit)) ≡ makeOutcome (over (now (bank .entry))) (now (store .entry)) ⌝ }
+pub fn make(bank: &[u8], config: Config, store: &mut [u8]) -> Ran
+    ensures { λ result. ⌜ afterRan result (now (store .exit)) ≡ makeOutcome (over (now (bank .entry)) config) (now (store .entry)) ⌝ }
 {
     let found = bank::check(bank);
     let Checked::Accepted = found else {
@@ -66,18 +73,21 @@ pub fn make(bank: &[u8], store: &mut [u8]) -> Ran
     if store.len() != SIZE {
         return dark(Answer::Refused(Refusal::Buffer));
     }
+    if !bounds::in_range(config.alarms) {
+        return dark(Answer::Refused(Refusal::AlarmSetting));
+    }
     begin(bank, store)
 }
 
 // A controller is made, and a list of events, five bytes each, is run by it: what the last event leaves, or making if it is refused or there is
 // no event. The bank is checked once.
-pub fn run(bank: &[u8], store: &mut [u8], bytes: &[u8]) -> Ran
-    ensures { λ result. ⌜ afterRan result (now (store .exit)) ≡ final (over (now (bank .entry))) (now (store .entry)) (eventsIn (now (bytes .entry))) ⌝ }
+pub fn run(bank: &[u8], config: Config, store: &mut [u8], bytes: &[u8]) -> Ran
+    ensures { λ result. ⌜ afterRan result (now (store .exit)) ≡ final (over (now (bank .entry)) config) (now (store .entry)) (eventsIn (now (bytes .entry))) ⌝ }
 {
-    let made = make(bank, store);
+    let made = make(bank, config, store);
     let first = made.answer;
     let Answer::Accepted(_) = first else {
         return made;
     };
-    list::run_from(bank, store, made, bytes)
+    list::run_from(bank, config, store, made, bytes)
 }

@@ -1,57 +1,94 @@
 // A list of events, run from making on: the bank is known to be accepted, and what an event leaves to be sound. What is shown is looked up once,
 // after the last event.
 ghost use mathlib.Core.Path.{_≡_};
-ghost use Rattle.plain.specs.Setup.{over, hereIn};
+ghost use Rattle.plain.specs.Setup.{over};
 ghost use Rattle.plain.specs.Event.{eventsFrom};
 ghost use Rattle.plain.specs.Listed.{eventsIn};
-ghost use Rattle.effect.specs.Known.{Within, Made};
+ghost use Rattle.effect.specs.Known.{saidAt, Within, Made};
 ghost use Rattle.effect.specs.Ran.{stateFrom, ranBy, turnOf, afterMoved, afterRan};
 use crate::Moved;
 use crate::Ran;
-use crate::Told;
 use crate::answers::answered;
+use crate::answers::by_parts;
 use crate::answers::here_after;
+use crate::answers::progress_of;
+use crate::answers::with_alarms;
+use crate::beside::alarms_by;
+use crate::beside::credit_after;
+use crate::beside::is_bounded;
+use crate::beside::is_return;
+use crate::beside::keeps;
 use crate::credits::save;
 use crate::credits::settle;
 use crate::events::known;
 use listed::asked_at;
 use plain::Asked;
+use plain::Config;
+use plain::Refusal;
 use setting::Settings;
 
 // What is asked for, if anything is.
 fn turn(
     bank: &[u8],
+    config: Config,
     settings: Settings,
     store: &mut [u8],
     credits: &mut [u32; 99],
     moved: Moved,
     asked: Asked,
 ) -> Moved
-    requires { ⌜ Within (over (now bank)) settings (moved .here) (stateFrom moved (now credits)) (now store) ⌝ }
-    ensures { λ o. ⌜ afterMoved (over (now (bank .entry))) o (now (credits .exit)) (now (store .exit)) ≡ turnOf (over (now (bank .entry))) moved (now (credits .entry)) (now (store .entry)) asked ⌝ }
-    ensures { λ result. ⌜ result .here ≡ hereIn (over (now (bank .entry))) (result .run .position) ⌝ }
+    requires { ⌜ Within (over (now bank) config) settings (moved .here) (stateFrom moved (now credits)) (now store) ⌝ }
+    ensures { λ o. ⌜ afterMoved (over (now (bank .entry)) config) o (now (credits .exit)) (now (store .exit))
+        ≡ turnOf (over (now (bank .entry)) config) moved (now (credits .entry)) (now (store .entry)) asked ⌝ }
+    ensures { λ result. ⌜ result .here ≡ saidAt (now (bank .entry)) settings (result .progress .position) ⌝ }
 {
     let Asked::Of(event) = asked else {
         return moved;
     };
-    let run = moved.run;
-    let before = run.position;
+    let progress = moved.progress;
+    let before = progress.position;
     let here = moved.here;
-    let done = known(bank, settings, here, &store[..], moved.power, run, event);
-    let credit = done.credit;
-    settle(credits, &store[..], credit);
-    let left = done.run;
+    let power = moved.power;
+    let bounded = if is_return(event) {
+        is_bounded(config, &store[..])
+    } else {
+        true
+    };
+    let done = known(
+        bank,
+        settings,
+        here,
+        &store[..],
+        power,
+        progress,
+        bounded,
+        event,
+    );
+    let left = by_parts(done.progress);
     let position = left.position;
+    let accepted = done.accepted;
+    let refusal = done.refusal;
+    let there = here_after(bank, settings, here, before, position);
+    let idle = judge::idle(config.alarms, moved.alarms);
+    let held = moved.alarms;
+    let alarms = if keeps(accepted, idle, event) {
+        held
+    } else {
+        alarms_by(config, there, &store[..], event, held, left)
+    };
+    let credit = credit_after(event, before, accepted);
+    settle(credits, &store[..], credit);
     if done.saves {
         let saved = *credits;
-        save(store, position, saved);
+        save(store, position, saved, alarms);
     }
-    let told = done.told;
     Moved {
         power: done.power,
-        run: left,
-        here: here_after(bank, settings, here, before, position),
-        told,
+        progress: left,
+        alarms,
+        here: there,
+        accepted,
+        refusal,
     }
 }
 
@@ -59,31 +96,35 @@ fn turn(
 fn ended(settings: Settings, moved: Moved, credits: [u32; 99]) -> Ran
     ensures { λ result. ⌜ result ≡ ranBy settings moved credits ⌝ }
 {
-    let run = moved.run;
-    let position = run.position;
+    let progress = moved.progress;
+    let position = progress.position;
     let here = moved.here;
-    let told = moved.told;
+    let accepted = moved.accepted;
+    let refusal = moved.refusal;
     Ran {
         power: moved.power,
-        run,
+        run: with_alarms(progress, moved.alarms),
         credits,
-        answer: answered(settings, here, position, told),
+        answer: answered(settings, here, position, accepted, refusal),
     }
 }
 
 // The events, from a state that stands on. The settings are read once.
-pub fn run_from(bank: &[u8], store: &mut [u8], made: Ran, bytes: &[u8]) -> Ran
-    requires { ⌜ Made (over (now bank)) made (now store) ⌝ }
-    ensures { λ result. ⌜ afterRan result (now (store .exit)) ≡ eventsFrom (over (now (bank .entry))) (afterRan made (now (store .entry))) (eventsIn (now (bytes .entry))) ⌝ }
+pub fn run_from(bank: &[u8], config: Config, store: &mut [u8], made: Ran, bytes: &[u8]) -> Ran
+    requires { ⌜ Made (over (now bank) config) made (now store) ⌝ }
+    ensures { λ result. ⌜ afterRan result (now (store .exit)) ≡ eventsFrom (over (now (bank .entry)) config) (afterRan made (now (store .entry))) (eventsIn (now (bytes .entry))) ⌝ }
 {
     let settings = setting::read_settings(bank);
     let run = made.run;
     let position = run.position;
+    let alarms = run.alarms;
     let mut moved = Moved {
         power: made.power,
-        run,
+        progress: progress_of(run),
+        alarms,
         here: program::here_at(bank, settings, position.pattern, position.step),
-        told: Told::Accepted,
+        accepted: true,
+        refusal: Refusal::Unsound, // none
     };
     let mut credits = made.credits;
     let mut at: usize = 0;
@@ -91,6 +132,7 @@ pub fn run_from(bank: &[u8], store: &mut [u8], made: Ran, bytes: &[u8]) -> Ran
     while 0 < remaining {
         moved = turn(
             bank,
+            config,
             settings,
             store,
             &mut credits,

@@ -1,81 +1,66 @@
 // A return.
-ghost use mathlib.Core.Path.{_≡_};
-ghost use Rattle.plain.specs.Setup.{over};
-ghost use Rattle.plain.specs.Run.{readableBy, returnBy};
-ghost use Rattle.plain.specs.Event.{broughtBack, knownEffect};
+ghost use Rattle.plain.specs.Run.{returnBy};
 ghost use Rattle.plain.specs.declared.Event.{Event};
-ghost use Rattle.effect.specs.Known.{Returns};
-ghost use Rattle.effect.specs.Done.{effectOf};
+ghost use Rattle.effect.specs.Done.{BroughtBack, Returned, DoesReturn};
 use crate::Done;
+use crate::Progress;
 use crate::answers::accepted;
 use crate::answers::refused;
 use measure::Measured;
 use measure::Reading;
-use plain::Credit;
 use plain::Refusal;
-use plain::Run;
 use position::Here;
 use setting::Settings;
 
 // What a record brings back, before the choices.
-fn brought_back(store: &[u8]) -> Run
-    ensures { λ result. ⌜ result ≡ broughtBack (now (store .entry)) ⌝ }
+fn brought_back(store: &[u8]) -> Progress
+    ensures { λ result. ⌜ BroughtBack (now (store .entry)) result ⌝ }
 {
-    Run {
+    Progress {
         position: checkpoint::read_position(store),
         unsaved: 0,
         measured: Measured::NoReading,
     }
 }
 
-// Whether each part that a record has of a run is readable.
-pub fn is_readable(settings: Settings, here: Here, run: Run) -> bool
-    ensures { λ result. ⌜ result ≡ readableBy settings here run ⌝ }
-{
-    let position = run.position;
-    command::readable(settings, here, position)
-}
-
 // The reading becomes a first reading, u is 0, the choices apply.
-fn returned(settings: Settings, here: Here, reading: Reading, run: Run) -> Run
-    ensures { λ result. ⌜ result ≡ returnBy settings here reading run ⌝ }
+fn returned(settings: Settings, here: Here, reading: Reading, progress: Progress) -> Progress
+    ensures { λ result. ⌜ Returned (returnBy settings here reading) progress result ⌝ }
 {
     let measured = measure::first(reading);
-    let position = run.position;
-    Run {
-        position: command::returned(settings, here, measure::whole_value(measured), position),
+    let before = progress.position;
+    let position = command::returned(settings, here, measure::whole_value(measured), before);
+    Progress {
+        position,
         unsaved: 0,
         measured,
     }
 }
 
-// A return: 24, 25, 31.
+// A return: 24, 25, 31; `bounded` says whether the alarms that the record holds are within their bounds.
 pub fn restore(
     bank: &[u8],
     settings: Settings,
     store: &[u8],
     power: bool,
-    run: Run,
+    progress: Progress,
+    bounded: bool,
     reading: Reading,
 ) -> Done
-    requires { ⌜ Returns (over (now bank)) (now store) power run settings ⌝ }
-    ensures { λ result. ⌜ effectOf (over (now (bank .entry))) result ≡ knownEffect (over (now (bank .entry))) (now (store .entry)) power run (Event.Return reading) ⌝ }
+    ensures { λ result. ⌜ DoesReturn (now (bank .entry)) (now (store .entry)) settings power progress bounded (Event.Return reading) result ⌝ }
 {
     if power {
-        return refused(power, run, Refusal::PowerOn);
+        return refused(power, progress, Refusal::PowerOn);
     }
     if measure::outside(reading) {
-        return refused(power, run, Refusal::Outside);
+        return refused(power, progress, Refusal::Outside);
     }
     let back = brought_back(store);
     let position = back.position;
     let there = program::here_at(bank, settings, position.pattern, position.step);
-    if !is_readable(settings, there, back) {
-        return refused(power, run, Refusal::Unreadable);
+    let readable = command::readable(settings, there, position) & bounded;
+    if !readable {
+        return refused(power, progress, Refusal::Unreadable);
     }
-    accepted(
-        Credit::Restore,
-        true,
-        returned(settings, there, reading, back),
-    )
+    accepted(true, returned(settings, there, reading, back))
 }

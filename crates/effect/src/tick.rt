@@ -1,74 +1,63 @@
-// A tick: a row of stages on a run.
+// A tick: a row of stages on a run without its alarms.
 ghost use mathlib.Core.Path.{_≡_};
+ghost use mathlib.Core.Bool.{true};
 ghost use Prim.Native.Nat.{_<_};
-ghost use Rattle.plain.specs.Run.{measuring, counting, stepping, tickBy, tickCredit, tickSaves};
-ghost use Rattle.plain.specs.Replay.{tick as tickOf};
-ghost use Rattle.effect.specs.Known.{Few};
-ghost use Rattle.effect.specs.Done.{DoesPlain};
+ghost use Rattle.plain.specs.Run.{measuring, counting, stepping, tickBy};
+ghost use Rattle.plain.specs.declared.Event.{Event};
+ghost use Rattle.effect.specs.Done.{Leaves, IsSaving, Does};
 use crate::Done;
+use crate::Progress;
 use crate::answers::accepted;
 use crate::answers::refused;
 use measure::Reading;
-use plain::Credit;
 use plain::Refusal;
-use plain::Run;
 use position::Here;
-use position::Position;
 use setting::Settings;
 
 // The measured value is updated.
-fn measured(settings: Settings, reading: Reading, run: Run) -> Run
-    ensures { λ result. ⌜ result ≡ measuring settings reading run ⌝ }
+fn measured(settings: Settings, reading: Reading, progress: Progress) -> Progress
+    ensures { λ result. ⌜ Leaves (measuring settings reading) progress result ⌝ }
 {
-    let before = run.measured;
-    let position = run.position;
-    Run {
+    let before = progress.measured;
+    let position = progress.position;
+    Progress {
         position,
-        unsaved: run.unsaved,
+        unsaved: progress.unsaved,
         measured: measure::after(before, reading, settings.filter),
     }
 }
 
 // u gains 1.
-fn counted(mut run: Run) -> Run
-    requires { ⌜ run .unsaved < 255 ⌝ }
-    ensures { λ result. ⌜ result ≡ counting run ⌝ }
+fn counted(mut progress: Progress) -> Progress
+    requires { ⌜ progress .unsaved < 255 ⌝ }
+    ensures { λ result. ⌜ Leaves counting progress result ⌝ }
 {
-    run.unsaved = run.unsaved + 1;
-    run
+    progress.unsaved = progress.unsaved + 1;
+    progress
 }
 
 // In mode 1 a second of the step passes.
-fn stepped(here: Here, mut run: Run) -> Run
-    ensures { λ result. ⌜ result ≡ stepping here run ⌝ }
+fn stepped(here: Here, mut progress: Progress) -> Progress
+    ensures { λ result. ⌜ Leaves (stepping here) progress result ⌝ }
 {
-    let value = run.measured;
-    let before = run.position;
+    let value = progress.measured;
+    let before = progress.position;
     let position = program::tick(here, measure::whole_value(value), before);
-    run.position = position;
-    run
+    progress.position = position;
+    progress
 }
 
-fn ticked(settings: Settings, here: Here, reading: Reading, run: Run) -> Run
-    requires { ⌜ run .unsaved < 255 ⌝ }
-    ensures { λ result. ⌜ result ≡ tickBy settings here reading run ⌝ }
+// The tick's own step.
+fn ticked(settings: Settings, here: Here, reading: Reading, progress: Progress) -> Progress
+    requires { ⌜ progress .unsaved < 255 ⌝ }
+    ensures { λ result. ⌜ Leaves (tickBy settings here reading) progress result ⌝ }
 {
-    stepped(here, counted(measured(settings, reading, run)))
-}
-
-// In mode 1 the tick is credited to its step.
-fn credit_of(position: Position) -> Credit
-    ensures { λ result. ⌜ result ≡ tickCredit position ⌝ }
-{
-    if position.mode == 1 {
-        return Credit::Cook(position.step);
-    }
-    Credit::Keep
+    stepped(here, counted(measured(settings, reading, progress)))
 }
 
 // A tick saves if it changes mode, step or pass, or makes u 60.
-fn saves(before: Run, after: Run) -> bool
-    ensures { λ result. ⌜ result ≡ tickSaves before after ⌝ }
+fn saves(before: Progress, after: Progress) -> bool
+    ensures { λ result. ⌜ IsSaving before after result ⌝ }
 {
     let from = before.position;
     let to = after.position;
@@ -77,17 +66,22 @@ fn saves(before: Run, after: Run) -> bool
 }
 
 // A tick: 23, 25.
-pub fn tick(settings: Settings, here: Here, power: bool, run: Run, reading: Reading) -> Done
-    requires { ⌜ Few power run ⌝ }
-    ensures { λ result. ⌜ DoesPlain settings here power run (tickOf reading) result ⌝ }
+pub fn tick(
+    settings: Settings,
+    here: Here,
+    power: bool,
+    progress: Progress,
+    reading: Reading,
+) -> Done
+    requires { ⌜ (power ≡ true → progress .unsaved < 60) ⌝ }
+    ensures { λ result. ⌜ Does settings here power progress (Event.Tick reading) result ⌝ }
 {
     if !power {
-        return refused(power, run, Refusal::PowerOff);
+        return refused(power, progress, Refusal::PowerOff);
     }
     if measure::outside(reading) {
-        return refused(power, run, Refusal::Outside);
+        return refused(power, progress, Refusal::Outside);
     }
-    let next = ticked(settings, here, reading, run);
-    let from = run.position;
-    accepted(credit_of(from), saves(run, next), next)
+    let next = ticked(settings, here, reading, progress);
+    accepted(saves(progress, next), next)
 }

@@ -5,6 +5,7 @@ ghost use Rattle.controller.specs.Holds.{stateOf};
 ghost use Rattle.demand.specs.Run.{afterRun, runOutcome, Meets};
 use controller::State;
 use listed::is_list;
+use plain::Config;
 use plain::Reply;
 use run::dark_run;
 
@@ -16,9 +17,9 @@ pub struct Outcome {
 
 // A controller is made, and the list is run by it: the state, the record and the answer that the last event leaves, making's if the list is
 // empty or making is refused. Bytes that are no list are answered 99, and change nothing.
-pub fn run(bank: &[u8], store: &mut [u8], events: &[u8]) -> Outcome
-    ensures { λ o. ⌜ afterRun (stateOf (o .state)) (now (store .exit)) (o .reply) ≡ runOutcome (over (now (bank .entry))) (now (store .entry)) (now (events .entry)) ⌝ }
-    ensures { λ o. ⌜ Meets (over (now (bank .entry))) (now (store .entry)) (now (events .entry)) (afterRun (stateOf (o .state)) (now (store .exit)) (o .reply)) ⌝ }
+pub fn run(bank: &[u8], config: Config, store: &mut [u8], events: &[u8]) -> Outcome
+    ensures { λ o. ⌜ afterRun (stateOf (o .state)) (now (store .exit)) (o .reply) ≡ runOutcome (over (now (bank .entry)) config) (now (store .entry)) (now (events .entry)) ⌝ }
+    ensures { λ o. ⌜ Meets (over (now (bank .entry)) config) (now (store .entry)) (now (events .entry)) (afterRun (stateOf (o .state)) (now (store .exit)) (o .reply)) ⌝ }
 {
     if !is_list(events) {
         return Outcome {
@@ -30,7 +31,7 @@ pub fn run(bank: &[u8], store: &mut [u8], events: &[u8]) -> Outcome
             reply: Reply::NoForm,
         };
     }
-    let ran = effect::run(bank, store, events);
+    let ran = effect::run(bank, config, store, events);
     let run = ran.run;
     let credits = ran.credits;
     let answer = ran.answer;

@@ -184,7 +184,7 @@ module _ (setup : Setup) where
   -- ---- the programs, for every bank and every cutting of an input into parts
 
   -- the beginning, over a record of zeros, leaves a made controller
-  pub start-leaves : (out : List ℕ) (ran : Ran) {store out′ : List ℕ} → after ran store out′ ≡ startOf setup (replicate 411 0) out
+  pub start-leaves : (out : List ℕ) (ran : Ran) {store out′ : List ℕ} → after ran store out′ ≡ startOf setup (replicate 423 0) out
       → found (ran .between) store ≡ begun setup
   unfolding startOf begun made creditWidths widthsOf total
   start-leaves out ran h = ap (λ (left : After). record { state = left .state; store = left .store; line = left .line; text = [] }) h

@@ -1,14 +1,16 @@
 // The lines of the programs `sheet` and `credits`: run one after the other over one controller, an input that comes in parts.
 ghost use mathlib.Core.Path.{_≡_};
-ghost use Rattle.plain.specs.Setup.{over};
 ghost use Rattle.decimal.specs.Text.{put};
+ghost use Rattle.line.specs.Beside.{sheetOver};
 ghost use Rattle.line.specs.Part.{after, found, runOf, finishOf, Begun, creditsOf};
+use crate::beside::sheet_config;
 use crate::lines::take;
 use crate::lines::take_line;
 use crate::text::put_refusal;
 use controller::State;
 use setting::Checked;
 
+mod beside;
 mod lines;
 mod text;
 
@@ -33,9 +35,9 @@ pub struct Started {
 
 // The beginning: a controller is made, and no line has begun. A refused bank's numbers stand at the front of `out`.
 pub fn start(bank: &[u8], store: &mut [u8], out: &mut [u8]) -> Started
-    ensures { λ result. ⌜ Begun (over (now (bank .entry))) (now (store .entry)) (now (out .entry)) (after (result .ran) (now (store .exit)) (now (out .exit))) (result .«is_accepted») ⌝ }
+    ensures { λ result. ⌜ Begun (sheetOver (now (bank .entry))) (now (store .entry)) (now (out .entry)) (after (result .ran) (now (store .exit)) (now (out .exit))) (result .«is_accepted») ⌝ }
 {
-    let made = controller::make(bank, store);
+    let made = controller::make(bank, sheet_config(), store);
     let state = made.state;
     let line = [0u8; 16];
     let between = Between {
@@ -61,7 +63,7 @@ pub fn start(bank: &[u8], store: &mut [u8], out: &mut [u8]) -> Started
 
 // A part of the input: each line that ends in it is run, and the text of all stands at the front of `out`.
 pub fn run(bank: &[u8], store: &mut [u8], between: Between, input: &[u8], out: &mut [u8]) -> Ran
-    ensures { λ result. ⌜ after result (now (store .exit)) (now (out .exit)) ≡ runOf (over (now (bank .entry))) (found between (now (store .entry))) (now (input .entry)) (now (out .entry)) ⌝ }
+    ensures { λ result. ⌜ after result (now (store .exit)) (now (out .exit)) ≡ runOf (sheetOver (now (bank .entry))) (found between (now (store .entry))) (now (input .entry)) (now (out .entry)) ⌝ }
 {
     let mut ran = Ran { between, end: 0 };
     if out.len() / 168 < input.len() {
@@ -77,7 +79,7 @@ pub fn run(bank: &[u8], store: &mut [u8], between: Between, input: &[u8], out: &
 
 // The end of the input: a last line without a newline counts if it is not empty.
 pub fn finish(bank: &[u8], store: &mut [u8], between: Between, out: &mut [u8]) -> Ran
-    ensures { λ result. ⌜ after result (now (store .exit)) (now (out .exit)) ≡ finishOf (over (now (bank .entry))) (found between (now (store .entry))) (now (out .entry)) ⌝ }
+    ensures { λ result. ⌜ after result (now (store .exit)) (now (out .exit)) ≡ finishOf (sheetOver (now (bank .entry))) (found between (now (store .entry))) (now (out .entry)) ⌝ }
 {
     let ran = Ran { between, end: 0 };
     if out.len() < 168 {

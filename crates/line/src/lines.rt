@@ -3,13 +3,14 @@ ghost use mathlib.Core.Path.{_≡_};
 ghost use Prim.Native.Nat.{_+_, _≤_, min};
 ghost use lib.IntN.{pos};
 ghost use lib.ListN.{length};
-ghost use Rattle.plain.specs.Setup.{over};
 ghost use Rattle.plain.specs.Event.{eventOutcome};
 ghost use Rattle.controller.specs.Holds.{stateOf, after as left};
+ghost use Rattle.line.specs.Beside.{sheetOver};
 ghost use Rattle.line.specs.Text.{said, askedFor};
 ghost use Rattle.line.specs.Part.{after, found, tookLine, tookByte};
 use crate::Between;
 use crate::Ran;
+use crate::beside::sheet_config;
 use crate::text::put_eight;
 use controller::Outcome;
 use controller::State;
@@ -19,13 +20,14 @@ use plain::Event;
 
 // An event of a line, by the controller's own methods.
 fn event(bank: &[u8], store: &mut [u8], state: State, event: Event) -> Outcome
-    ensures { λ o. ⌜ left (o .state) (now (store .exit)) (o .answer) ≡ eventOutcome (over (now (bank .entry))) (now (store .entry)) (stateOf state) event ⌝ }
+    ensures { λ o. ⌜ left (o .state) (now (store .exit)) (o .answer) ≡ eventOutcome (sheetOver (now (bank .entry))) (now (store .entry)) (stateOf state) event ⌝ }
 {
+    let config = sheet_config();
     match event {
-        Event::Tick(reading) => state.tick(bank, store, reading),
-        Event::Press(command) => state.command(bank, store, command),
-        Event::Cut => state.cut(bank, store),
-        Event::Return(reading) => state.restore(bank, store, reading),
+        Event::Tick(reading) => state.tick(bank, config, store, reading),
+        Event::Press(command) => state.command(bank, config, store, command),
+        Event::Cut => state.cut(bank, config, store),
+        Event::Return(reading) => state.restore(bank, config, store, reading),
     }
 }
 
@@ -37,7 +39,8 @@ struct Said {
 
 // What a line asks for is done; a line of any other form has the number 99.
 fn respond(bank: &[u8], store: &mut [u8], state: State, asked: Asked) -> Said
-    ensures { λ o. ⌜ said (over (now (bank .entry))) (stateOf (o .state)) (now (store .exit)) (pos (o .number)) ≡ askedFor (over (now (bank .entry))) (now (store .entry)) (stateOf state) asked ⌝ }
+    ensures { λ o. ⌜ said (sheetOver (now (bank .entry))) (stateOf (o .state)) (now (store .exit)) (pos (o .number))
+        ≡ askedFor (sheetOver (now (bank .entry))) (now (store .entry)) (stateOf state) asked ⌝ }
 {
     let Asked::Of(wanted) = asked else {
         return Said { state, number: 99 };
@@ -61,7 +64,7 @@ fn least(x: usize, y: usize) -> usize
 // The line so far is run, and its text stands at a place of the buffer. No line has begun then.
 pub fn take_line(bank: &[u8], store: &mut [u8], ran: Ran, out: &mut [u8]) -> Ran
     requires { ⌜ ran .end + 168 ≤ length (now out) ⌝ }
-    ensures { λ result. ⌜ after result (now (store .exit)) (now (out .exit)) ≡ tookLine (over (now (bank .entry))) (found (ran .between) (now (store .entry))) (now (out .entry)) (ran .end) ⌝ }
+    ensures { λ result. ⌜ after result (now (store .exit)) (now (out .exit)) ≡ tookLine (sheetOver (now (bank .entry))) (found (ran .between) (now (store .entry))) (now (out .entry)) (ran .end) ⌝ }
 {
     let between = ran.between;
     let state = between.state;
@@ -83,7 +86,7 @@ pub fn take_line(bank: &[u8], store: &mut [u8], ran: Ran, out: &mut [u8]) -> Ran
 // A byte of the input is taken: the newline ends a line; of any other line the first 16 bytes are kept.
 pub fn take(bank: &[u8], store: &mut [u8], ran: Ran, c: u8, out: &mut [u8]) -> Ran
     requires { ⌜ ran .end + 168 ≤ length (now out) ⌝ }
-    ensures { λ result. ⌜ after result (now (store .exit)) (now (out .exit)) ≡ tookByte (over (now (bank .entry))) (found (ran .between) (now (store .entry))) (now (out .entry)) (ran .end) c ⌝ }
+    ensures { λ result. ⌜ after result (now (store .exit)) (now (out .exit)) ≡ tookByte (sheetOver (now (bank .entry))) (found (ran .between) (now (store .entry))) (now (out .entry)) (ran .end) c ⌝ }
 {
     if c == b'\n' {
         return take_line(bank, store, ran, out);

@@ -4,8 +4,8 @@ ghost use mathlib.Core.List.{[], _∷_};
 ghost use Prim.Native.Nat.{_+_, _≤_};
 ghost use lib.IntN.{pos};
 ghost use lib.ListN.{length};
-ghost use Rattle.plain.specs.Setup.{over};
 ghost use Rattle.decimal.specs.Text.{lineOf, put, putText};
+ghost use Rattle.line.specs.Beside.{sheetOver};
 ghost use Rattle.line.specs.Text.{eight};
 ghost use Rattle.line.specs.Sheet.{creditLines};
 ghost use Rattle.line.specs.Part.{refusalIn};
@@ -17,7 +17,7 @@ use setting::Checked;
 // Answer, mode, p, k, r, e, w, set value, at a place of a buffer that has room for them. Gives the place where they end.
 pub fn put_eight(bank: &[u8], number: u8, run: Run, out: &mut [u8], at: usize) -> usize
     requires { ⌜ at + 168 ≤ length (now out) ⌝ }
-    ensures { λ result. ⌜ put (now (out .exit)) result ≡ putText (now (out .entry)) at (lineOf (eight (over (now (bank .entry))) (pos number) run)) ⌝ }
+    ensures { λ result. ⌜ put (now (out .exit)) result ≡ putText (now (out .entry)) at (lineOf (eight (sheetOver (now (bank .entry))) (pos number) run)) ⌝ }
 {
     let position = run.position;
     let settings = setting::read_settings(bank);

@@ -1,25 +1,31 @@
 -- Laws that shut out wrong controllers by name: those that the document's review names, and the mistakes seen in other controllers. What
 -- happens to a position alone is in `position`, what happens in a list is demand 3.
 -- Assumes nothing.
-use mathlib.Core.Path.{_≡_, refl, ap}
+use mathlib.Core.Path.{_≡_, refl, ap, _∙_}
 use mathlib.Core.Bool.{Bool, true, false, cond, not}
 use mathlib.Core.List.{List, [], _∷_, map}
 use Prim.Native.Nat.{ℕ, _+_}
 use borrow.Author.Tests.{eq-eqb, ne-eqb}
+use lib.Dec.{eqb}
 use lib.IntN.{ℤ, pos}
-use lib.ListN.{take, replicate}
+use lib.ListN.{take, drop, replicate}
 use Rattle.field.specs.Field.{digits}
 use Rattle.field.specs.Row.{row, total}
 use Rattle.setting.specs.declared.Checked.the-variants.{Accepted}
 use Rattle.bank.specs.Check.{foundIn}
 use Rattle.measure.specs.Filter.{afterOf, firstOf, wholeOf, outsideOf}
 use Rattle.measure.specs.declared.Reading.{Reading}
+use Rattle.measure.specs.declared.Whole.{Whole}
 use Rattle.position.specs.Tests.{both, either, all}
-use Rattle.position.specs.Program.{tickPosition}
-use Rattle.position.specs.Command.{takesOf, isStart, commandPosition}
+use Rattle.position.specs.Program.{active, setValueOf, tickPosition}
+use Rattle.position.specs.Command.{takesOf, isStart, pausePosition, feedPosition, commandPosition}
+use Rattle.position.specs.Return.{returnPosition, readableOf}
 use Rattle.position.specs.declared.Position.{Position}
 use Rattle.position.specs.declared.Command.{Command}
-use Rattle.position.proofs.Tests.{either-right}
+use Rattle.position.proofs.Tests.{either-right, choice}
+use Rattle.alarm.specs.Alarm.{allInRange, allClear, keptIn, tickAlarms, allBounded}
+use Rattle.alarm.specs.declared.Alarms.{Alarms}
+use Rattle.alarm.proofs.Ticks.{unfiltered-stays, unjudged-stays}
 use Rattle.plain.specs.declared.Run.{Run}
 use Rattle.plain.specs.declared.Credit.{Credit}
 use Rattle.plain.specs.declared.Event.{Event}
@@ -27,11 +33,11 @@ use Rattle.plain.specs.declared.Asked.{Asked}
 use Rattle.plain.specs.declared.Refusal.{Refusal}
 use Rattle.plain.specs.declared.Answer.{Answer}
 use Rattle.plain.specs.declared.Effect.{Effect}
-use Rattle.plain.specs.Record.{widthsOf, numbersIn, creditWidths, recordSize, creditsFrom, recordOf, creditsIn, sized}
-use Rattle.plain.specs.Setup.{Setup, settingsIn, hereIn}
+use Rattle.plain.specs.Record.{widthsOf, numbersIn, Checkpoint, creditWidths, recordSize, creditsFrom, alarmsFrom, recordOf, creditsIn, sized}
+use Rattle.plain.specs.Setup.{Setup, Usable, settingsIn, hereIn}
 use Rattle.plain.specs.Answer.{numberOf}
-use Rattle.plain.specs.Run.{readableIn, soundBy, soundIn, shownIn, cooked, credited, measuring, counting, stepping, tickBy, tickRun, tickCredit, tickSaves}
-use Rattle.plain.specs.Run.{commandCredit, returnBy, returnRun}
+use Rattle.plain.specs.Run.{readableIn, soundBy, soundIn, shownIn, cooked, credited, measuring, counting, stepping, tickBy, judging, tickRun, tickCredit}
+use Rattle.plain.specs.Run.{tickSaves, commandRun, commandCredit, returnBy, returnRun}
 use Rattle.plain.specs.Refusals.{Row, Retained, soundState, eventRows}
 use Rattle.plain.specs.Event.{fresh, darkRun, dark, recordFor, applied, unchanged, refused, accepted, tickEffect, pressEffect, cutEffect, broughtBack}
 use Rattle.plain.specs.Event.{returnEffect, retainedIn, knownEffect, eventEffect, eventOutcome, makeOutcome}
@@ -46,16 +52,18 @@ never false = refl
 
 module _ (setup : Setup) (run : Run) (reading : Reading) where
   -- not all is refused: a tick on a sound run, with a reading in range, does what a tick does
-  pub tick-done : soundIn setup run ≡ true → outsideOf reading ≡ false → plainEffect setup true run (tick reading) ≡ tickEffect setup run reading
+  pub tick-done : allInRange (setup .config .alarms) ≡ true → soundIn setup run ≡ true → outsideOf reading ≡ false
+      → plainEffect setup true run (tick reading) ≡ tickEffect setup run reading
   unfolding plainEffect soundState both either
-  tick-done sound inside =
+  tick-done right sound inside =
       λ i. cond (not (sound i)) (refused true run Refusal.Unsound)
-      (cond (inside i) (refused true run Refusal.Outside) (tickEffect setup run reading))
+      (cond (not (right i)) (refused true run Refusal.AlarmSetting)
+      (cond (inside i) (refused true run Refusal.Outside) (tickEffect setup run reading)))
 
   -- no tick is ignored: the position that it leaves is the tick's, judged by the reading that it brings
   pub tick-moves : tickRun setup reading run .position
       ≡ tickPosition (hereIn setup (run .position)) (wholeOf (afterOf (run .measured) reading (settingsIn setup .filter))) (run .position)
-  unfolding tickBy counting stepping measuring
+  unfolding tickBy counting stepping measuring judging
   tick-moves = refl
 
   -- its credit is that of the mode and step before it
@@ -64,8 +72,39 @@ module _ (setup : Setup) (run : Run) (reading : Reading) where
 
   -- u is not counted while running alone: whatever the mode, a tick adds 1 to it
   pub u-counts : tickRun setup reading run .unsaved ≡ run .unsaved + 1
-  unfolding tickBy counting stepping measuring
+  unfolding tickBy counting stepping measuring judging
   u-counts = refl
+
+  -- the alarms are judged after the tick's own step: by the mode, the measured whole value and the set value that it leaves
+  pub tick-judges : let after = tickBy (settingsIn setup) (hereIn setup (run .position)) reading run in
+      tickRun setup reading run .alarms
+      ≡ tickAlarms (setup .config .alarms) (after .position .mode) (wholeOf (after .measured))
+      (setValueOf (hereIn setup (after .position)) (after .position)) (run .alarms)
+  unfolding tickBy counting stepping measuring judging
+  tick-judges = refl
+
+  -- so a tick that leaves no filtered value, or a mode other than 1 and 2, leaves flags and counts
+  pub tick-unfiltered : wholeOf (tickRun setup reading run .measured) ≡ Whole.Nothing → tickRun setup reading run .alarms ≡ run .alarms
+  unfolding judging
+  tick-unfiltered none =
+      let after = tickBy (settingsIn setup) (hereIn setup (run .position)) reading run in
+      let set = setValueOf (hereIn setup (after .position)) (after .position) in
+      tick-judges ∙ ap (λ (whole : Whole). tickAlarms (setup .config .alarms) (after .position .mode) whole set (run .alarms)) none
+      ∙ unfiltered-stays (setup .config .alarms) set (run .alarms) (after .position .mode)
+
+  pub tick-unjudged : (tickRun setup reading run .position .mode ≡ 1 → ⊥) → (tickRun setup reading run .position .mode ≡ 2 → ⊥)
+      → tickRun setup reading run .alarms ≡ run .alarms
+  unfolding judging
+  tick-unjudged running paused =
+      let after = tickBy (settingsIn setup) (hereIn setup (run .position)) reading run in
+      let set = setValueOf (hereIn setup (after .position)) (after .position) in
+      tick-judges ∙ unjudged-stays (setup .config .alarms) set (run .alarms) (after .position .mode) (wholeOf (after .measured)) running paused
+
+  -- and nothing of an alarm makes a tick save
+  pub alarms-save-nothing : (after : Run) (alarms : Alarms)
+      → tickSaves run (record { position = after .position; unsaved = after .unsaved; measured = after .measured; alarms = alarms }) ≡ tickSaves run after
+  unfolding tickSaves
+  alarms-save-nothing after alarms = refl
 
   -- a return forgets the measured value and u of before
   pub return-first : (returnRun setup reading run .measured ≡ firstOf reading) × (returnRun setup reading run .unsaved ≡ 0)
@@ -82,18 +121,48 @@ press-moves setup run command = refl
 pub press-credit : (setup : Setup) (run : Run) (command : Command) → pressEffect setup run command .credit ≡ commandCredit command
 press-credit setup run command = refl
 
+-- a start clears flags and counts, and so does any move to stopped: select, reset, and a return with choice 0
+pub start-clears : (setup : Setup) (run : Run) → commandRun setup Command.Start run .alarms ≡ allClear
+unfolding isStart takesOf either commandPosition keptIn
+start-clears setup run = refl
+
+pub stop-clears : (setup : Setup) (run : Run) (q : ℤ)
+    → (commandRun setup (Command.Select q) run .alarms ≡ allClear) × (commandRun setup Command.Reset run .alarms ≡ allClear)
+unfolding isStart takesOf either commandPosition keptIn
+stop-clears setup run q = (refl, refl)
+
+pub return-clears : (setup : Setup) (reading : Reading) (run : Run) → settingsIn setup .outage ≡ 0 → active (run .position) ≡ true
+    → returnRun setup reading run .alarms ≡ allClear
+unfolding returnBy returnPosition keptIn
+return-clears setup reading run stops runs = rw (runs, stops)
+
+-- no other command does: a pause, and a feed that ends the run, keep them
+pub pause-keeps : (setup : Setup) (run : Run) → commandRun setup Command.Pause run .alarms ≡ run .alarms
+unfolding isStart takesOf either commandPosition pausePosition keptIn
+pause-keeps setup run = choice (λ (mode : ℕ). keptIn mode (run .alarms) ≡ run .alarms) (eqb (run .position .mode) 1) (λ _. refl) (λ _. refl)
+
+pub end-keeps : (setup : Setup) (run : Run) → hereIn setup (run .position) .endless ≡ true → commandRun setup Command.Feed run .alarms ≡ run .alarms
+unfolding isStart takesOf either commandPosition feedPosition keptIn
+end-keeps setup run endless = rw endless
+
 -- not every record is unreadable: over an accepted bank, a return with a reading in range that finds a readable record brings it back
-pub return-done : (setup : Setup) (store : List ℕ) (reading : Reading) → foundIn (setup .bank) ≡ Accepted → sized store ≡ true
+pub return-done : (setup : Setup) (store : List ℕ) (reading : Reading) → Usable setup → sized store ≡ true
     → readableIn setup (broughtBack store) ≡ true → outsideOf reading ≡ false
     → eventOutcome setup store dark (Event.Return reading) ≡ applied store (dark .credits) (returnEffect setup store reading)
 unfolding eventOutcome eventEffect knownEffect retainedIn soundState dark both either
 return-done setup store reading ok whole readable inside =
     let deny = refused false darkRun in
-    rw ok
+    rw (ok .bank)
     (λ i. applied store (dark .credits)
     (cond (not (whole i)) (deny Refusal.Buffer)
+    (cond (not (ok .alarms i)) (deny Refusal.AlarmSetting)
     (cond (inside i) (deny Refusal.Outside)
-    (cond (not (readable i)) (deny Refusal.Unreadable) (returnEffect setup store reading)))))
+    (cond (not (readable i)) (deny Refusal.Unreadable) (returnEffect setup store reading))))))
+
+-- and not every record is readable: none is whose flags or counts are out of their bounds, whatever its position
+pub alarms-unreadable : (setup : Setup) (run : Run) → allBounded (setup .config .alarms) (run .position .mode) (run .alarms) ≡ false → readableIn setup run ≡ false
+unfolding all both
+alarms-unreadable setup run out = rw out (never (readableOf (settingsIn setup) (hereIn setup (run .position)) (run .position)))
 
 -- no answer is constant: an accepted one carries the set value and the signals of the run that is left
 pub carries : (setup : Setup) (credit : Credit) (saves : Bool) (run : Run)
@@ -179,10 +248,10 @@ pub refused-record : (power : Bool) (run : Run) (answer : Answer) (store credits
 refused-record power run answer store credits = refl
 
 -- making saves before any event
-pub made-saves : (setup : Setup) (store : List ℕ) → foundIn (setup .bank) ≡ Accepted → sized store ≡ true
+pub made-saves : (setup : Setup) (store : List ℕ) → Usable setup → sized store ≡ true
     → makeOutcome setup store .store ≡ recordFor (fresh .run) (fresh .credits)
 unfolding makeOutcome retainedIn
-made-saves setup store ok whole = rw (ok, whole)
+made-saves setup store ok whole = rw (ok .bank, whole, ok .alarms)
 
 -- ---- the order of refusals
 
@@ -190,29 +259,42 @@ made-saves setup store ok whole = rw (ok, whole)
 abbrev numbers : List Row → List ℕ
 numbers rows = map (λ (row : Row). numberOf (row .0)) rows
 
--- lower numbers come first, for every event
+-- lower numbers come first, for every event; 41 comes directly after 22
 pub rows-in-order : (setup : Setup) (retained : Retained) (power : Bool) (run : Run) (reading : Reading) (command : Command)
-    → (numbers (eventRows setup retained power run (Event.Tick reading)) ≡ 21 ∷ 22 ∷ 23 ∷ 24 ∷ 25 ∷ 31 ∷ [])
-    × (numbers (eventRows setup retained power run (Event.Press command)) ≡ 21 ∷ 22 ∷ 23 ∷ 24 ∷ 25 ∷ 26 ∷ 27 ∷ 28 ∷ 29 ∷ 30 ∷ 31 ∷ [])
-    × (numbers (eventRows setup retained power run Event.Cut) ≡ 21 ∷ 22 ∷ 23 ∷ 24 ∷ 25 ∷ 31 ∷ [])
-    × (numbers (eventRows setup retained power run (Event.Return reading)) ≡ 21 ∷ 22 ∷ 23 ∷ 24 ∷ 25 ∷ 31 ∷ [])
+    → (numbers (eventRows setup retained power run (Event.Tick reading)) ≡ 21 ∷ 22 ∷ 41 ∷ 23 ∷ 24 ∷ 25 ∷ 31 ∷ [])
+    × (numbers (eventRows setup retained power run (Event.Press command)) ≡ 21 ∷ 22 ∷ 41 ∷ 23 ∷ 24 ∷ 25 ∷ 26 ∷ 27 ∷ 28 ∷ 29 ∷ 30 ∷ 31 ∷ [])
+    × (numbers (eventRows setup retained power run Event.Cut) ≡ 21 ∷ 22 ∷ 41 ∷ 23 ∷ 24 ∷ 25 ∷ 31 ∷ [])
+    × (numbers (eventRows setup retained power run (Event.Return reading)) ≡ 21 ∷ 22 ∷ 41 ∷ 23 ∷ 24 ∷ 25 ∷ 31 ∷ [])
 unfolding numberOf
 rows-in-order setup retained power run reading command = (refl, refl, refl, refl)
 
 -- ---- bytes
 
--- the record has 411 bytes, and its credits begin at 15
-pub record-bytes : (recordSize ≡ 411) × (creditsFrom ≡ 15)
+-- the record has 423 bytes, its credits begin at 15, its alarms at 411
+pub record-bytes : (recordSize ≡ 423) × (creditsFrom ≡ 15) × (alarmsFrom ≡ 411)
 unfolding widthsOf creditWidths total
-record-bytes = (refl, refl)
+record-bytes = (refl, refl, refl)
 
--- mode, p, k, r, e, w, b, then the credits, low byte first, whatever a reader of the same mind would read back
-pub record-order : take 19
-    (recordOf
-    (record {
+-- mode, p, k, r, e, w, b, then the credits, then alarm by alarm flags and count, low byte first, whatever a reader of the same mind would read back
+abbrev example : Checkpoint
+example =
+    record {
       position = record { mode = 1; pattern = 2; step = 3; pass = 1284; elapsed = 6; waited = 7; base = pos 8 };
       credits = replicate 99 9;
-    }))
+      alarms =
+          record {
+            first = record { flags = 1; count = 515 };
+            second = record { flags = 2; count = 4 };
+            third = record { flags = 3; count = 5 };
+            fourth = record { flags = 0; count = 6 };
+          };
+    }
+
+pub record-end : drop 407 (recordOf example) ≡ 9 ∷ 0 ∷ 0 ∷ 0 ∷ 1 ∷ 3 ∷ 2 ∷ 2 ∷ 4 ∷ 0 ∷ 3 ∷ 5 ∷ 0 ∷ 0 ∷ 6 ∷ 0 ∷ []
+unfolding recordOf widthsOf numbersIn creditWidths row digits
+record-end = refl
+
+pub record-order : take 19 (recordOf example)
     ≡ 1 ∷ 2 ∷ 3 ∷ 4 ∷ 5 ∷ 6 ∷ 0 ∷ 0 ∷ 0 ∷ 7 ∷ 0 ∷ 0 ∷ 0 ∷ 8 ∷ 0 ∷ 9 ∷ 0 ∷ 0 ∷ 0 ∷ []
 unfolding recordOf widthsOf numbersIn creditWidths row digits
 record-order = refl

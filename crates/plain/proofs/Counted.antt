@@ -28,7 +28,7 @@ use Rattle.plain.specs.declared.Credit.{Credit}
 use Rattle.plain.specs.declared.Effect.{Effect}
 use Rattle.plain.specs.Setup.{Setup, settingsIn, hereIn}
 use Rattle.plain.specs.Answer.{isAccepted}
-use Rattle.plain.specs.Run.{soundIn, credited, measuring, counting, stepping, tickBy, tickRun, tickCredit, tickSaves, commandRun, returnBy, returnRun}
+use Rattle.plain.specs.Run.{soundIn, credited, measuring, counting, stepping, tickBy, judging, tickRun, tickCredit, tickSaves, commandRun, returnBy, returnRun}
 use Rattle.plain.specs.Event.{fresh}
 use Rattle.plain.specs.Replay.{Live, lived, Plain, tick, press, plainEffect, machine, countedIn, startsWith, counted}
 use Rattle.plain.proofs.Bank.{fair}
@@ -50,7 +50,7 @@ module _ (setup : Setup) where
     StaysIdle effect = effect .run .position .mode ≡ 0
 
     idle-tick : (reading : Reading) → StaysIdle (plainEffect setup true (live .run) (tick reading))
-    unfolding tickBy counting stepping measuring
+    unfolding tickBy counting stepping measuring judging
     idle-tick reading =
         by-tick setup (live .run) StaysIdle (λ _ _. stopped) reading
         (λ _ _. choice (λ (run : Run). run .position .mode ≡ 0) (tickSaves (live .run) (tickRun setup reading (live .run))) (λ _. still) (λ _. still))

@@ -12,26 +12,30 @@ use Rattle.setting.specs.declared.Checked.the-variants.{Accepted}
 use Rattle.setting.proofs.Laws.{both-left, both-right}
 use Rattle.bank.specs.View.{placeOf, patternOf}
 use Rattle.bank.specs.Check.{foundIn}
-use Rattle.measure.specs.Filter.{firstOf, wholeOf, soundOf, outsideOf}
+use Rattle.measure.specs.Filter.{afterOf, firstOf, wholeOf, soundOf, outsideOf}
 use Rattle.measure.specs.declared.Reading.{Reading}
 use Rattle.measure.specs.declared.Whole.{Whole}
 use Rattle.measure.proofs.Laws.{after-sound, first-sound, whole-range, Fits64, after-fits, first-fits}
 use Rattle.position.specs.Tests.{all}
-use Rattle.position.specs.Program.{hereOf, limitOf}
+use Rattle.position.specs.Program.{hereOf, limitOf, secondPosition, tickPosition}
 use Rattle.position.specs.Command.{selectsOf, isStart, isValue, valueOf, startBase, lacksValue, stuckOf, startPosition, commandPosition}
 use Rattle.position.specs.Return.{readableOf}
 use Rattle.position.specs.declared.Position.{Position}
 use Rattle.position.specs.declared.Command.{Command}
-use Rattle.position.proofs.Tests.{either-false}
-use Rattle.position.proofs.Laws.{tick-pattern, feed-pattern, back-pattern, plus-pattern, minus-pattern, pause-pattern, return-pattern}
+use Rattle.position.proofs.Tests.{either-false, choice}
+use Rattle.position.proofs.Cases.{next-cases, tick-cases}
+use Rattle.position.proofs.Laws.{second-keeps, tick-pattern, feed-pattern, back-pattern, plus-pattern, minus-pattern, pause-pattern, return-pattern}
 use Rattle.position.proofs.Readable.{readable-pattern}
 use Rattle.position.proofs.Keeps.{Along, Bounded, bounded, taken-active, tick-stays, return-stays, start-stays, pause-stays, feed-stays}
 use Rattle.position.proofs.Keeps.{back-stays, plus-stays, minus-stays, stop-stays}
+use Rattle.alarm.specs.Alarm.{allBounded}
+use Rattle.alarm.specs.declared.Alarms.{Alarms}
+use Rattle.alarm.proofs.Bounds.{tick-bounded, mode-bounded, kept-bounded, clear-bounded}
 use Rattle.plain.specs.declared.Run.{Run}
 use Rattle.plain.specs.declared.Effect.{Effect}
 use Rattle.plain.specs.Setup.{Setup, settingsIn, hereIn}
-use Rattle.plain.specs.Run.{readableIn, soundBy, soundIn, measuring, counting, stepping, tickBy, tickRun}
-use Rattle.plain.specs.Run.{tickCredit, tickSaves, commandRun, returnBy, returnRun}
+use Rattle.plain.specs.Run.{readableIn, soundBy, soundIn, measuring, counting, stepping, tickBy, judging, tickRun}
+use Rattle.plain.specs.Run.{tickCredit, tickSaves, clearedBy, commandRun, returnBy, returnRun}
 use Rattle.plain.specs.Event.{accepted, fresh}
 use Rattle.plain.specs.Replay.{Live, lived, Plain, tick, press, plainEffect, returnedLive, freshLive}
 use Rattle.plain.proofs.Bank.{initial-fine, first-pattern, target-fine, some-pass, fair}
@@ -71,6 +75,7 @@ module _ (setup : Setup) where
 
   pub record GoodRun (run : Run) : Type 0 where
     pub readable : readableOf (settingsIn setup) (hereIn setup (run .position)) (run .position) ≡ true
+    pub alarms : allBounded (setup .config .alarms) (run .position .mode) (run .alarms) ≡ true
     pub unsaved : run .unsaved < 60
     pub measured : soundOf (run .measured) ≡ true
     pub float : Fits64 (run .measured)
@@ -82,11 +87,11 @@ module _ (setup : Setup) where
   -- a good run is readable and sound
   pub good-readable : (run : Run) → GoodRun run → readableIn setup run ≡ true
   unfolding all both
-  good-readable run good = rw (good .readable)
+  good-readable run good = rw (good .readable, good .alarms)
 
   pub good-sound : (run : Run) → GoodRun run → soundIn setup run ≡ true
   unfolding soundBy all both
-  good-sound run good = rw (good .readable, lt-ltb (run .unsaved) 60 (good .unsaved), good .measured)
+  good-sound run good = rw (good .readable, good .alarms, lt-ltb (run .unsaved) 60 (good .unsaved), good .measured)
 
   -- a sound run's position is readable
   pub sound-readable : (run : Run) → soundIn setup run ≡ true → readableOf (settingsIn setup) (hereIn setup (run .position)) (run .position) ≡ true
@@ -105,33 +110,70 @@ module _ (setup : Setup) where
 
     tick-readable : (reading : Reading)
         → let after = tickRun setup reading run .position in readableOf (settingsIn setup) (hereIn setup after) after ≡ true
-    unfolding tickBy counting stepping measuring
+    unfolding tickBy counting stepping measuring judging
     tick-readable reading =
         kept _ (tick-pattern (hereIn setup (run .position)) (run .position) _)
         (tick-stays (settingsIn setup) (hereIn setup (run .position)) _ (run .position) (good .readable) _ (target-fine setup ok (run .position)))
 
     tick-measured : (reading : Reading) → outsideOf reading ≡ false → soundOf (tickRun setup reading run .measured) ≡ true
-    unfolding tickBy counting stepping measuring
+    unfolding tickBy counting stepping measuring judging
     tick-measured reading holds = after-sound (run .measured) reading (settingsIn setup .filter) holds
 
     tick-float : (reading : Reading) → Fits64 (tickRun setup reading run .measured)
-    unfolding tickBy counting stepping measuring
+    unfolding tickBy counting stepping measuring judging
     tick-float reading = after-fits (run .measured) reading (settingsIn setup .filter)
 
     -- a tick that does not save leaves u below 60
     tick-unsaved : (reading : Reading) → tickSaves run (tickRun setup reading run) ≡ false → tickRun setup reading run .unsaved < 60
-    unfolding tickBy counting stepping measuring tickSaves
+    unfolding tickBy counting stepping measuring judging tickSaves
     tick-unsaved reading holds =
         let others = either-false _ _ (either-false _ _ holds .1) .1 in
         let below = eqb-false (run .unsaved + 1) 60 (either-false _ _ others .1) in
         omega (arith, good .unsaved)
 
+    -- the alarms stay within their bounds: in mode 1 no second stops, else the mode stays, and then they are judged
+    step-bounded : (whole : Whole)
+        → allBounded (setup .config .alarms) (tickPosition (hereIn setup (run .position)) whole (run .position) .mode) (run .alarms) ≡ true
+    step-bounded whole =
+        let here = hereIn setup (run .position) in
+        let moved = secondPosition here (run .position) in
+        tick-cases Stays here (run .position) whole (λ _. good .alarms)
+        (λ running _. next-cases Stays here moved (λ _. second-bounded running) (λ _. second-bounded running)
+        (mode-bounded (setup .config .alarms) (run .position .mode) 3 (run .alarms) (λ stopped. omega (arith, stopped)) (good .alarms)))
+        (λ running _. second-bounded running)
+      where
+        Stays : Position → Type 0
+        Stays other = allBounded (setup .config .alarms) (other .mode) (run .alarms) ≡ true
+
+        second-bounded : run .position .mode ≡ 1 → Stays (secondPosition (hereIn setup (run .position)) (run .position))
+        second-bounded running =
+            let same = ap (λ (other : Position). other .mode) (second-keeps (hereIn setup (run .position)) (run .position)) in
+            mode-bounded (setup .config .alarms) (run .position .mode) (secondPosition (hereIn setup (run .position)) (run .position) .mode) (run .alarms)
+            (λ stopped. omega (arith, stopped, same, running)) (good .alarms)
+
+    tick-alarms : (reading : Reading)
+        → let after = tickRun setup reading run in allBounded (setup .config .alarms) (after .position .mode) (after .alarms) ≡ true
+    unfolding tickBy counting stepping measuring judging
+    tick-alarms reading = tick-bounded (setup .config .alarms) _ _ _ (run .alarms) (step-bounded (wholeOf (afterOf (run .measured) reading (settingsIn setup .filter))))
+
     good-tick : (reading : Reading) → outsideOf reading ≡ false → (test : Bool) → tickSaves run (tickRun setup reading run) ≡ test
         → GoodRun (accepted setup (tickCredit (run .position)) test (tickRun setup reading run) .run)
     good-tick reading holds true saving =
-        record { readable = tick-readable reading; unsaved = omega arith; measured = tick-measured reading holds; float = tick-float reading }
+        record {
+          readable = tick-readable reading;
+          alarms = tick-alarms reading;
+          unsaved = omega arith;
+          measured = tick-measured reading holds;
+          float = tick-float reading;
+        }
     good-tick reading holds false saving =
-        record { readable = tick-readable reading; unsaved = tick-unsaved reading saving; measured = tick-measured reading holds; float = tick-float reading }
+        record {
+          readable = tick-readable reading;
+          alarms = tick-alarms reading;
+          unsaved = tick-unsaved reading saving;
+          measured = tick-measured reading holds;
+          float = tick-float reading;
+        }
 
     -- ---- a command
 
@@ -184,6 +226,14 @@ module _ (setup : Setup) where
         (minus-stays (settingsIn setup) (hereIn setup (run .position)) _ (run .position) (good .readable) (sym (taken-active (run .position) .minus) ∙ takes .takes)
         (not-false _ (takes .moves)))
 
+    command-alarms : (command : Command)
+        → let after = commandRun setup command run in allBounded (setup .config .alarms) (after .position .mode) (after .alarms) ≡ true
+    command-alarms command =
+        let before = run .position .mode in
+        kept-bounded (setup .config .alarms) before (commandRun setup command run .position .mode) (clearedBy command run .alarms)
+        (choice (λ (alarms : Alarms). allBounded (setup .config .alarms) before alarms ≡ true) (isStart command)
+        (λ _. clear-bounded (setup .config .alarms) before) (λ _. good .alarms))
+
     -- ---- an event keeps a good run good, and so does a return
 
     pub good-plain : (event : Plain) → GoodRun (plainEffect setup true run event .run)
@@ -192,7 +242,13 @@ module _ (setup : Setup) where
         (λ _ holds. good-tick reading holds (tickSaves run (tickRun setup reading run)) refl)
     good-plain (press command) =
         by-press setup run (λ (effect : Effect). GoodRun (effect .run)) (λ _ _. good) command
-        (λ _ takes. record { readable = command-readable command takes; unsaved = omega arith; measured = good .measured; float = good .float })
+        (λ _ takes. record {
+          readable = command-readable command takes;
+          alarms = command-alarms command;
+          unsaved = omega arith;
+          measured = good .measured;
+          float = good .float;
+        })
 
     pub good-return : (reading : Reading) → outsideOf reading ≡ false → GoodRun (returnRun setup reading run)
     unfolding returnBy
@@ -201,6 +257,7 @@ module _ (setup : Setup) where
           readable =
               kept _ (return-pattern (hereIn setup (run .position)) (run .position) (settingsIn setup) (wholeOf (firstOf reading)))
               (return-stays (settingsIn setup) (hereIn setup (run .position)) _ (run .position) (good .readable) (wholeOf (firstOf reading)));
+          alarms = kept-bounded (setup .config .alarms) (run .position .mode) (returnRun setup reading run .position .mode) (run .alarms) (good .alarms);
           unsaved = omega arith;
           measured = first-sound reading holds;
           float = first-fits reading;
@@ -230,6 +287,7 @@ module _ (setup : Setup) where
           run =
               record {
                 readable = stop-stays (settingsIn setup) _ 1 (omega arith) (first-pattern setup ok);
+                alarms = clear-bounded (setup .config .alarms) 0;
                 unsaved = omega arith;
                 measured = refl;
                 float = tt;

@@ -1,11 +1,9 @@
 -- Rows of refusals by their cases, and what an event that no row meets passed.
 -- Assumes nothing.
-use mathlib.Core.Path.{_≡_, refl}
-use mathlib.Core.Bool.{Bool, true, false, false≢true}
-use mathlib.Core.List.{List, [], _∷_}
-use Prim.Native.Nat.{_<_}
-use native.Mathlib.Omega.{arith}
-use borrow.Author.Tests.{not-false}
+use mathlib.Core.Path.{_≡_, refl, sym, ap, _∙_}
+use mathlib.Core.Bool.{Bool, true, false, not, false≢true}
+use mathlib.Core.List.{List, [], _∷_, map}
+use borrow.Author.Tests.{eq-eqb, not-false}
 use lib.Dec.{eqb}
 use Rattle.setting.specs.declared.Settings.{Settings}
 use Rattle.measure.specs.Filter.{wholeOf, outsideOf}
@@ -14,8 +12,9 @@ use Rattle.measure.specs.declared.Whole.{Whole}
 use Rattle.position.specs.declared.Position.{Position}
 use Rattle.position.specs.declared.Here.{Here}
 use Rattle.position.specs.declared.Command.{Command}
-use Rattle.position.specs.Tests.{both, either}
+use Rattle.position.specs.Tests.{both, either, all}
 use Rattle.position.specs.Command.{takesOf, selectsOf, isStart, lacksValue, stuckOf}
+use Rattle.position.proofs.Tests.{both-left, both-right}
 use Rattle.plain.specs.declared.Run.{Run}
 use Rattle.plain.specs.declared.Event.{Event}
 use Rattle.plain.specs.declared.Refusal.{Refusal}
@@ -62,68 +61,48 @@ abbrev pub TakesIn : Setup → Run → Command → Type 0
 TakesIn setup run command =
     Takes (settingsIn setup) (hereIn setup (run .position)) (wholeOf (run .measured)) (run .position) command
 
--- ---- an event with power on: refused, with a number below 31, or done
+-- ---- rows of which none with the number 31 can be met
 
-module _ (setup : Setup) (run : Run) (P : Effect → Type 0) (denied : (refusal : Refusal) → numberOf refusal < 31 → P (refused true run refusal)) where
+abbrev others : List Row → List Bool
+others rows = map (λ (row : Row). either (not (eqb (numberOf (row .0)) 31)) (not (row .1))) rows
+
+neither : (first second : Bool) → first ≡ true → second ≡ true → either (not first) (not second) ≡ false
+unfolding either
+neither true second holds also = ap not also
+neither false second holds also = absurd (false≢true holds)
+
+module _ {A : Type 0} (P : A → Type 0) (refuse : Refusal → A) (next : A) (denied : (refusal : Refusal) → (numberOf refusal ≡ 31 → ⊥) → P (refuse refusal)) where
+  met-others : (rows : List Row) → all (others rows) ≡ true → Met P refuse next rows
+  unfolding all
+  met-others [] holds = tt
+  met-others (row ∷ rows) holds = (
+    λ met. denied (row .0) (λ number. false≢true (sym (neither _ _ (eq-eqb (numberOf (row .0)) 31 number) met) ∙ both-left _ _ holds)),
+    met-others rows (both-right _ _ holds),
+  )
+
+-- ---- an event with power on: refused, not with 31, or done
+
+module _
+    (setup : Setup)
+    (run : Run)
+    (P : Effect → Type 0)
+    (denied : (refusal : Refusal) → (numberOf refusal ≡ 31 → ⊥) → P (refused true run refusal)) where
   pub by-tick : (reading : Reading) → (soundIn setup run ≡ true → outsideOf reading ≡ false → P (tickEffect setup run reading))
       → P (plainEffect setup true run (tick reading))
-  unfolding plainEffect soundState both either numberOf
+  unfolding plainEffect soundState both either all numberOf
   by-tick reading done =
-      judged-cases P (refused true run) (tickEffect setup run reading) (eventRows setup noRecord true run (Event.Tick reading)) (
-        λ _. denied Refusal.Unsound (omega arith),
-        (
-          λ _. denied Refusal.Buffer (omega arith),
-          (
-            λ _. denied Refusal.PowerOff (omega arith),
-            (
-              λ _. denied Refusal.PowerOn (omega arith),
-              (
-                λ _. denied Refusal.Outside (omega arith),
-                (λ test. absurd (false≢true test), tt),
-              ),
-            ),
-          ),
-        ),
-      )
-      (λ passed. done (not-false _ (passed .0)) (passed .1 .1 .1 .1 .0))
+      let rows = eventRows setup noRecord true run (Event.Tick reading) in
+      judged-cases P (refused true run) (tickEffect setup run reading) rows (met-others P (refused true run) (tickEffect setup run reading) denied rows refl)
+      (λ passed. done (not-false _ (passed .0)) (passed .1 .1 .1 .1 .1 .0))
 
   pub by-press : (command : Command) → (soundIn setup run ≡ true → TakesIn setup run command → P (pressEffect setup run command))
       → P (plainEffect setup true run (press command))
-  unfolding plainEffect soundState both either numberOf
+  unfolding plainEffect soundState both either all numberOf
   by-press command done =
-      judged-cases P (refused true run) (pressEffect setup run command) (eventRows setup noRecord true run (Event.Press command)) (
-        λ _. denied Refusal.Unsound (omega arith),
-        (
-          λ _. denied Refusal.Buffer (omega arith),
-          (
-            λ _. denied Refusal.PowerOff (omega arith),
-            (
-              λ _. denied Refusal.PowerOn (omega arith),
-              (
-                λ _. denied Refusal.Outside (omega arith),
-                (
-                  λ _. denied Refusal.NoPattern (omega arith),
-                  (
-                    λ _. denied Refusal.WrongMode (omega arith),
-                    (
-                      λ _. denied Refusal.NoStep (omega arith),
-                      (
-                        λ _. denied Refusal.NoValue (omega arith),
-                        (
-                          λ _. denied Refusal.Stuck (omega arith),
-                          (λ test. absurd (false≢true test), tt),
-                        ),
-                      ),
-                    ),
-                  ),
-                ),
-              ),
-            ),
-          ),
-        ),
-      )
+      let rows = eventRows setup noRecord true run (Event.Press command) in
+      judged-cases P (refused true run) (pressEffect setup run command) rows (met-others P (refused true run) (pressEffect setup run command) denied rows refl)
       (λ passed.
-      let own = passed .1 .1 .1 .1 .1 in
+      let own = passed .1 .1 .1 .1 .1 .1 in
       done (not-false _ (passed .0))
       (record {
         selects = not-false _ (own .0);

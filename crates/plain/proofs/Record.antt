@@ -16,8 +16,11 @@ use Rattle.field.specs.Row.{row, rowAt, total}
 use Rattle.field.proofs.Laws.{Bytes, field-below, signed-bits}
 use Rattle.field.proofs.Rows.{Held, none, held, held-all, length-row, row-append, sets-rows, sets-all, row-turn, read-row, row-read, below-row, length-rowAt}
 use Rattle.position.specs.declared.Position.{Position}
+use Rattle.alarm.specs.declared.Alarms.{Alarms}
+use Rattle.alarm.specs.Part.{alarmWidths, alarmsAt}
+use Rattle.alarm.proofs.Written.{AllRanged, alarms-held, alarmsFrom as numbered-alarms, alarms-row, alarms-ranged}
 use Rattle.plain.specs.Record.{Part, widthsOf, sizeOf, numbersIn, Checkpoint, positionWidths, creditWidths, parts}
-use Rattle.plain.specs.Record.{recordSize, creditsFrom, recordOf, positionIn, creditsIn, checkpointIn}
+use Rattle.plain.specs.Record.{recordSize, creditsFrom, alarmsFrom, recordOf, positionIn, creditsIn, alarmsIn, checkpointIn}
 
 -- ---- rows
 
@@ -122,12 +125,13 @@ pub record Ranged (checkpoint : Checkpoint) : Type 0 where
   pub base : SFits w16 (checkpoint .position .base)
   pub long : length (checkpoint .credits) ≡ 99
   pub each : (i : ℕ) → getD (checkpoint .credits) i 0 < 4294967296
+  pub alarms : AllRanged (checkpoint .alarms)
 
 -- ---- written
 
 paired : (checkpoint : Checkpoint) → length (checkpoint .credits) ≡ 99 → Paired checkpoint parts
 unfolding creditWidths
-paired checkpoint holds = (refl, (length-replicate {A = ℕ} 99 4 ∙ sym holds, tt))
+paired checkpoint holds = (refl, (length-replicate {A = ℕ} 99 4 ∙ sym holds, (refl, tt)))
 
 pub length-record : (checkpoint : Checkpoint) → length (checkpoint .credits) ≡ 99 → length (recordOf checkpoint) ≡ recordSize
 unfolding recordOf
@@ -149,7 +153,7 @@ unfolding creditWidths
 within checkpoint holds = (
   held (holds .mode) (held (holds .pattern) (held (holds .step) (held (holds .pass) (held (holds .elapsed) (held (holds .waited)
       (held (fits-ofZ (holds .base) .fits) none)))))),
-  (held-all 4 99 (checkpoint .credits) (holds .long) (holds .each), tt),
+  (held-all 4 99 (checkpoint .credits) (holds .long) (holds .each), (alarms-held (checkpoint .alarms) (holds .alarms), tt)),
 )
 
 stand-record : (checkpoint : Checkpoint) → Ranged checkpoint → Stand checkpoint parts (recordOf checkpoint) 0
@@ -182,15 +186,20 @@ credits-back : (checkpoint : Checkpoint) → Ranged checkpoint → creditsIn (re
 unfolding creditsIn widthsOf total
 credits-back checkpoint holds = stand-record checkpoint holds .1 .0
 
+alarms-back : (checkpoint : Checkpoint) → Ranged checkpoint → alarmsIn (recordOf checkpoint) ≡ checkpoint .alarms
+unfolding alarmsIn creditWidths widthsOf total
+alarms-back checkpoint holds = alarms-row (recordOf checkpoint) alarmsFrom ∙ ap numbered-alarms (stand-record checkpoint holds .1 .1 .0)
+
 -- what was written is read back
 pub read-back : (checkpoint : Checkpoint) → Ranged checkpoint → checkpointIn (recordOf checkpoint) ≡ checkpoint
-read-back checkpoint holds = λ i. record { position = position-back checkpoint holds i; credits = credits-back checkpoint holds i }
+read-back checkpoint holds =
+    λ i. record { position = position-back checkpoint holds i; credits = credits-back checkpoint holds i; alarms = alarms-back checkpoint holds i }
 
 -- ---- read, then written
 
 -- what is read from bytes is in its range
 pub ranged : (store : List ℕ) → Bytes store → Ranged (checkpointIn store)
-unfolding positionIn creditsIn signedField creditWidths
+unfolding positionIn creditsIn alarmsIn signedField creditWidths
 ranged store small =
     record {
       mode = field-below 1 store 0 small;
@@ -202,11 +211,12 @@ ranged store small =
       base = sfits-toZ (record { fits = field-below 2 store 13 small });
       long = length-rowAt creditWidths store creditsFrom;
       each = below-row 4 99 store creditsFrom small;
+      alarms = alarms-ranged store alarmsFrom small;
     }
 
 stand-read : (store : List ℕ) → Bytes store → Stand (checkpointIn store) parts store 0
-unfolding positionIn creditsIn rowAt widthsOf total
-stand-read store small = (rw (signed-bits w16 store 13 small), (refl, tt))
+unfolding positionIn creditsIn alarmsIn alarmsAt rowAt widthsOf total creditWidths
+stand-read store small = (rw (signed-bits w16 store 13 small), (refl, (refl, tt)))
 
 -- bytes of the record's size, read and written again, are the same bytes
 pub written-back : (store : List ℕ) → Bytes store → length store ≡ recordSize → recordOf (checkpointIn store) ≡ store

@@ -18,6 +18,8 @@ use Rattle.position.specs.Tests.{both, either}
 use Rattle.position.specs.Command.{isStart}
 use Rattle.position.specs.Return.{returnPosition}
 use Rattle.position.proofs.SetValue.{fits}
+use Rattle.alarm.specs.Alarm.{allInRange}
+use Rattle.alarm.proofs.Written.{bounded-ranged}
 use Rattle.outage.specs.Outage.{Power, on, off, Held, start, off-back, step, other}
 use Rattle.outage.proofs.Theorem.{Lawful}
 use Rattle.plain.specs.declared.Run.{Run}
@@ -27,11 +29,11 @@ use Rattle.plain.specs.declared.Refusal.{Refusal}
 use Rattle.plain.specs.declared.Answer.{Answer}
 use Rattle.plain.specs.declared.Effect.{Effect}
 use Rattle.plain.specs.Record.{Checkpoint, checkpointIn, creditsIn, sized}
-use Rattle.plain.specs.Setup.{Setup, settingsIn, hereIn}
+use Rattle.plain.specs.Setup.{Setup, Usable, settingsIn, hereIn}
 use Rattle.plain.specs.Answer.{isAccepted}
 use Rattle.plain.specs.Run.{movedTo, readFirst, readableIn, shownIn, credited, tickCredit, returnBy}
 use Rattle.plain.specs.Refusals.{soundState}
-use Rattle.plain.specs.Event.{State, fresh, darkRun, dark, After, after, recordFor, applied, cutEffect, broughtBack, refused, returnEffect, retainedIn, knownEffect}
+use Rattle.plain.specs.Event.{State, fresh, darkRun, dark, After, after, checkpointFor, recordFor, applied, cutEffect, broughtBack, refused, returnEffect, retainedIn, knownEffect}
 use Rattle.plain.specs.Event.{eventEffect, eventOutcome, makeOutcome, eventsFrom}
 use Rattle.plain.specs.Replay.{Live, powered, lived, freshLive, Plain, tick, press, eventOf, listed, plainEffect, refusedOff, returnedLive, restored, answerBy, machine}
 use Rattle.plain.proofs.Judged.{by-tick, by-press}
@@ -45,13 +47,13 @@ module _ (setup : Setup) where
   -- it has the record's size
   record-sized : (run : Run) (credits : List ℕ) → Credits credits → sized (recordFor run credits) ≡ true
   unfolding sized
-  record-sized run credits good-credits = eq-eqb _ _ (length-record (record { position = run .position; credits = credits }) (good-credits .long))
+  record-sized run credits good-credits = eq-eqb _ _ (length-record (checkpointFor run credits) (good-credits .long))
 
-  module _ (ok : foundIn (setup .bank) ≡ Accepted) where
+  module _ (ok : Usable setup) where
     -- its numbers are in their types' ranges
-    pub good-ranged : (live : Live) → Good setup live → Ranged (record { position = live .run .position; credits = live .credits })
+    pub good-ranged : (live : Live) → Good setup live → Ranged (checkpointFor (live .run) (live .credits))
     good-ranged live well =
-        let bounds = good-bounded setup ok (live .run) (well .run) in
+        let bounds = good-bounded setup (ok .bank) (live .run) (well .run) in
         record {
           mode = omega (arith, bounds .mode);
           pattern = omega (arith, bounds .pattern);
@@ -62,12 +64,13 @@ module _ (setup : Setup) where
           base = fits (live .run .position .base) (bounds .base);
           long = well .credits .long;
           each = well .credits .each;
+          alarms = bounded-ranged (setup .config .alarms) (live .run .position .mode) (live .run .alarms) (well .run .alarms) (ok .alarms);
         }
 
     -- so it is read back
     kept-checkpoint : (live : Live) → Good setup live
-        → checkpointIn (recordFor (live .run) (live .credits)) ≡ record { position = live .run .position; credits = live .credits }
-    kept-checkpoint live well = read-back (record { position = live .run .position; credits = live .credits }) (good-ranged live well)
+        → checkpointIn (recordFor (live .run) (live .credits)) ≡ checkpointFor (live .run) (live .credits)
+    kept-checkpoint live well = read-back (checkpointFor (live .run) (live .credits)) (good-ranged live well)
 
     -- a return that brings back its record is the return applied to it
     pub back-again : (live : Live) → Good setup live → (reading : Reading)
@@ -76,7 +79,12 @@ module _ (setup : Setup) where
     back-again live well reading =
         let to : Checkpoint → Live = λ checkpoint. record {
           run =
-              movedTo (readFirst reading (live .run))
+              movedTo (record {
+                position = checkpoint .position;
+                unsaved = 0;
+                measured = firstOf reading;
+                alarms = checkpoint .alarms;
+              })
               (returnPosition (settingsIn setup) (hereIn setup (checkpoint .position)) (wholeOf (firstOf reading)) (checkpoint .position));
           credits = checkpoint .credits;
         } in
@@ -87,9 +95,9 @@ module _ (setup : Setup) where
     lawful =
         record {
           Good = Good setup;
-          good-fresh = good-fresh setup ok;
-          good-run = λ live event well. good-live setup ok live well event;
-          good-return = λ live reading accepts well. good-returned setup ok live well reading (not-true (outsideOf reading) accepts);
+          good-fresh = good-fresh setup (ok .bank);
+          good-run = λ live event well. good-live setup (ok .bank) live well event;
+          good-return = λ live reading accepts well. good-returned setup (ok .bank) live well reading (not-true (outsideOf reading) accepts);
           restore-write = λ live reading accepts well. ap (λ (live : Live). (live, answerBy setup live)) (back-again live well reading);
         }
 
@@ -128,7 +136,7 @@ unfolding knownEffect plainEffect retainedIn both
 known-plain setup store power run (tick reading) whole = rw whole
 known-plain setup store power run (press command) whole = rw whole
 
-module _ (setup : Setup) (ok : foundIn (setup .bank) ≡ Accepted) where
+module _ (setup : Setup) (ok : Usable setup) where
   -- ---- what stands
 
   -- the state that power leaves
@@ -160,7 +168,12 @@ module _ (setup : Setup) (ok : foundIn (setup .bank) ≡ Accepted) where
   unfolding broughtBack
   kept-readable store holds =
       let back = ap checkpointIn (holds .is) ∙ kept-checkpoint setup ok (holds .of) (holds .good) in
-      ap (λ (checkpoint : Checkpoint). readableIn setup (record { position = checkpoint .position; unsaved = 0; measured = holds .of .run .measured })) back
+      ap (λ (checkpoint : Checkpoint). readableIn setup (record {
+        position = checkpoint .position;
+        unsaved = 0;
+        measured = holds .of .run .measured;
+        alarms = checkpoint .alarms;
+      })) back
       ∙ good-readable setup (holds .of .run) (holds .good .run)
 
   -- ---- one event is one step
@@ -169,7 +182,7 @@ module _ (setup : Setup) (ok : foundIn (setup .bank) ≡ Accepted) where
   known : (store : List ℕ) (state : State) (event : Event)
       → eventOutcome setup store state event ≡ applied store (state .credits) (knownEffect setup store (state .power) (state .run) event)
   unfolding eventOutcome eventEffect
-  known store state event = rw ok
+  known store state event = rw (ok .bank)
 
   on-plain : (store : List ℕ) (live : Live) (event : Plain)
       → applied store (live .credits) (plainEffect setup true (live .run) event) ≡ view (step (machine setup) (on live) store (other event))
@@ -195,14 +208,14 @@ module _ (setup : Setup) (ok : foundIn (setup .bank) ≡ Accepted) where
   one (on live) store (Event.Tick reading) well kept = one-plain store live (tick reading) kept
   one (on live) store (Event.Press command) well kept = one-plain store live (press command) kept
   one (on live) store Event.Cut well kept =
-      known store (powered live) Event.Cut ∙ rw (good-sound setup (live .run) (well .run), kept-sized store kept)
+      known store (powered live) Event.Cut ∙ rw (good-sound setup (live .run) (well .run), kept-sized store kept, ok .alarms)
   one (on live) store (Event.Return reading) well kept =
-      known store (powered live) (Event.Return reading) ∙ rw (good-sound setup (live .run) (well .run), kept-sized store kept)
-  one off store (Event.Tick reading) well kept = known store dark (Event.Tick reading) ∙ rw (kept-sized store kept)
-  one off store (Event.Press command) well kept = known store dark (Event.Press command) ∙ rw (kept-sized store kept)
-  one off store Event.Cut well kept = known store dark Event.Cut ∙ rw (kept-sized store kept)
+      known store (powered live) (Event.Return reading) ∙ rw (good-sound setup (live .run) (well .run), kept-sized store kept, ok .alarms)
+  one off store (Event.Tick reading) well kept = known store dark (Event.Tick reading) ∙ rw (kept-sized store kept, ok .alarms)
+  one off store (Event.Press command) well kept = known store dark (Event.Press command) ∙ rw (kept-sized store kept, ok .alarms)
+  one off store Event.Cut well kept = known store dark Event.Cut ∙ rw (kept-sized store kept, ok .alarms)
   one off store (Event.Return reading) well kept =
-      known store dark (Event.Return reading) ∙ rw (kept-sized store kept, kept-readable store kept) (go (outsideOf reading))
+      known store dark (Event.Return reading) ∙ rw (kept-sized store kept, ok .alarms, kept-readable store kept) (go (outsideOf reading))
     where
       go : (test : Bool)
           → applied store (dark .credits)
@@ -217,7 +230,7 @@ module _ (setup : Setup) (ok : foundIn (setup .bank) ≡ Accepted) where
   saved : (live : Live) → Good setup live → (event : Plain) (store : List ℕ) → Kept store → (test : Bool)
       → Kept (cond test (machine setup .write (lived live (plainEffect setup true (live .run) event))) store)
   saved live well event store kept true =
-      record { of = lived live (plainEffect setup true (live .run) event); good = good-live setup ok live well event; is = refl }
+      record { of = lived live (plainEffect setup true (live .run) event); good = good-live setup (ok .bank) live well event; is = refl }
   saved live well event store kept false = kept
 
   pub record GoodHeld (held : Held (machine setup)) : Type 0 where
@@ -227,7 +240,7 @@ module _ (setup : Setup) (ok : foundIn (setup .bank) ≡ Accepted) where
   good-plain : (live : Live) → Good setup live → (event : Plain) (store : List ℕ) → Kept store → GoodHeld (step (machine setup) (on live) store (other event))
   unfolding GoodPower
   good-plain live well event store kept =
-      record { power = good-live setup ok live well event; kept = saved live well event store kept (plainEffect setup true (live .run) event .saves) }
+      record { power = good-live setup (ok .bank) live well event; kept = saved live well event store kept (plainEffect setup true (live .run) event .saves) }
 
   pub good-one : (power : Power (machine setup)) (store : List ℕ) (event : Event) → GoodPower power → Kept store
       → GoodHeld (step (machine setup) power store (listed event))
@@ -246,19 +259,19 @@ module _ (setup : Setup) (ok : foundIn (setup .bank) ≡ Accepted) where
       returns false holds =
           let back : returnedLive setup reading (restored store) ≡ returnedLive setup reading (kept .of) =
           ap (λ (bytes : List ℕ). returnedLive setup reading (restored bytes)) (kept .is) ∙ back-again setup ok (kept .of) (kept .good) reading in
-          let good = subst (Good setup) (sym back) (good-returned setup ok (kept .of) (kept .good) reading holds) in
+          let good = subst (Good setup) (sym back) (good-returned setup (ok .bank) (kept .of) (kept .good) reading holds) in
           record { power = good; kept = record { of = returnedLive setup reading (restored store); good = good; is = refl } }
 
   -- ---- from what making gave
 
   pub made : (store : List ℕ) → sized store ≡ true → makeOutcome setup store ≡ view (start (machine setup))
   unfolding makeOutcome view stateOf retainedIn fresh
-  made store whole = rw (ok, whole)
+  made store whole = rw (ok .bank, whole, ok .alarms)
 
   pub good-start : GoodHeld (start (machine setup))
   unfolding GoodPower
   good-start =
-      record { power = good-fresh setup ok; kept = record { of = freshLive; good = good-fresh setup ok; is = refl } }
+      record { power = good-fresh setup (ok .bank); kept = record { of = freshLive; good = good-fresh setup (ok .bank); is = refl } }
 
   -- ---- for a loop over events
 
@@ -310,9 +323,9 @@ module _ (setup : Setup) (ok : foundIn (setup .bank) ≡ Accepted) where
         subst (λ (left : After). Standing (left .state) (left .store)) (sym seen)
         (record { power = held .power; is = refl; good = well .power; kept = well .kept })
 
--- the same, with the accepted bank
+-- the same, with a setup that no refusal meets
 pub record Stands (setup : Setup) (state : State) (store : List ℕ) : Type 0 where
-  pub ok : foundIn (setup .bank) ≡ Accepted
+  pub ok : Usable setup
   pub standing : Standing setup ok state store
 
 -- ---- where making is refused, each event of a list is answered alike, and changes nothing
@@ -331,44 +344,53 @@ module _ (setup : Setup) (store : List ℕ) where
   unfolding eventOutcome eventEffect credited
   no-bank holds events = alike (Answer.Bank (foundIn (setup .bank))) (λ event. rw holds) events
 
-  -- 22
-  no-buffer : passes (foundIn (setup .bank)) ≡ true → sized store ≡ false → (events : List Event)
-      → eventsFrom setup (after dark store (Answer.Refused Refusal.Buffer)) events ≡ after dark store (Answer.Refused Refusal.Buffer)
-  unfolding eventOutcome eventEffect knownEffect retainedIn credited soundState either dark
-  no-buffer holds whole events = alike (Answer.Refused Refusal.Buffer) (λ event. rw (holds, whole)) events
+  -- 22, 41
+  no-call : (answer : Refusal) → passes (foundIn (setup .bank)) ≡ true
+      → ((event : Event) → knownEffect setup store false darkRun event ≡ refused false darkRun answer) → (events : List Event)
+      → eventsFrom setup (after dark store (Answer.Refused answer)) events ≡ after dark store (Answer.Refused answer)
+  unfolding eventOutcome eventEffect credited dark
+  no-call answer holds known events = alike (Answer.Refused answer) (λ event. rw (holds, known event)) events
+
+  no-buffer : sized store ≡ false → (event : Event) → knownEffect setup store false darkRun event ≡ refused false darkRun Refusal.Buffer
+  unfolding knownEffect retainedIn soundState either
+  no-buffer whole event = rw whole
+
+  no-setting : sized store ≡ true → allInRange (setup .config .alarms) ≡ false → (event : Event)
+      → knownEffect setup store false darkRun event ≡ refused false darkRun Refusal.AlarmSetting
+  unfolding knownEffect retainedIn soundState either
+  no-setting whole right event = rw (whole, right)
+
+  -- what making leaves, by its three tests
+  made-by : Bool → Bool → Bool → After
+  made-by passing whole right =
+      cond passing
+      (cond (not whole) (after dark store (Answer.Refused Refusal.Buffer))
+      (cond (not right) (after dark store (Answer.Refused Refusal.AlarmSetting))
+      (after fresh (recordFor (fresh .run) (fresh .credits)) (Answer.Accepted (shownIn setup (fresh .run))))))
+      (after dark store (Answer.Bank (foundIn (setup .bank))))
 
   -- so what such a list leaves is what making left
   pub not-made : isAccepted (makeOutcome setup store .answer) ≡ false → (events : List Event)
       → eventsFrom setup (makeOutcome setup store) events ≡ makeOutcome setup store
-  unfolding makeOutcome retainedIn isAccepted
-  not-made holds events = go (passes (foundIn (setup .bank))) refl (sized store) refl holds
+  unfolding makeOutcome retainedIn isAccepted made-by
+  not-made holds events = go (passes (foundIn (setup .bank))) refl (sized store) refl (allInRange (setup .config .alarms)) refl holds
     where
-      made-by : Bool → Bool → After
-      made-by test other-test =
-          cond test
-          (cond (not other-test) (after dark store (Answer.Refused Refusal.Buffer))
-          (after fresh (recordFor (fresh .run) (fresh .credits)) (Answer.Accepted (shownIn setup (fresh .run)))))
-          (after dark store (Answer.Bank (foundIn (setup .bank))))
+      go : (passing : Bool) → passes (foundIn (setup .bank)) ≡ passing → (whole : Bool) → sized store ≡ whole → (right : Bool)
+          → allInRange (setup .config .alarms) ≡ right → isAccepted (made-by passing whole right .answer) ≡ false
+          → eventsFrom setup (made-by passing whole right) events ≡ made-by passing whole right
+      go true passes-is true whole-is true right-is refused-by = absurd (false≢true (sym refused-by))
+      go true passes-is true whole-is false right-is refused-by = no-call Refusal.AlarmSetting passes-is (no-setting whole-is right-is) events
+      go true passes-is false whole-is right right-is refused-by = no-call Refusal.Buffer passes-is (no-buffer whole-is) events
+      go false passes-is whole whole-is right right-is refused-by = no-bank passes-is events
 
-      go : (test : Bool) → passes (foundIn (setup .bank)) ≡ test → (other-test : Bool) → sized store ≡ other-test → isAccepted (made-by test other-test .answer) ≡ false
-          → eventsFrom setup (made-by test other-test) events ≡ made-by test other-test
-      go true passing true whole refused-by = absurd (false≢true (sym refused-by))
-      go true passing false whole refused-by = no-buffer passing whole events
-      go false passing other-test whole refused-by = no-bank passing events
-
-  -- and where making is accepted, the bank is, and the record has its size
-  pub made-begins : isAccepted (makeOutcome setup store .answer) ≡ true → (foundIn (setup .bank) ≡ Accepted) × (sized store ≡ true)
-  unfolding makeOutcome retainedIn isAccepted
-  made-begins holds = go (passes (foundIn (setup .bank))) refl (sized store) refl holds
+  -- and where making is accepted, no refusal meets the setup, and the record has its size
+  pub made-begins : isAccepted (makeOutcome setup store .answer) ≡ true → Usable setup × (sized store ≡ true)
+  unfolding makeOutcome retainedIn isAccepted made-by
+  made-begins holds = go (passes (foundIn (setup .bank))) refl (sized store) refl (allInRange (setup .config .alarms)) refl holds
     where
-      go : (test : Bool) → passes (foundIn (setup .bank)) ≡ test → (other-test : Bool) → sized store ≡ other-test
-          → isAccepted
-          (cond test
-          (cond (not other-test) (after dark store (Answer.Refused Refusal.Buffer))
-          (after fresh (recordFor (fresh .run) (fresh .credits)) (Answer.Accepted (shownIn setup (fresh .run)))))
-          (after dark store (Answer.Bank (foundIn (setup .bank)))) .answer)
-          ≡ true
-          → (foundIn (setup .bank) ≡ Accepted) × (sized store ≡ true)
-      go true passing true whole accepted-by = (is-accepted (foundIn (setup .bank)) passing, whole)
-      go true passing false whole accepted-by = absurd (false≢true accepted-by)
-      go false passing other-test whole accepted-by = absurd (false≢true accepted-by)
+      go : (passing : Bool) → passes (foundIn (setup .bank)) ≡ passing → (whole : Bool) → sized store ≡ whole → (right : Bool)
+          → allInRange (setup .config .alarms) ≡ right → isAccepted (made-by passing whole right .answer) ≡ true → Usable setup × (sized store ≡ true)
+      go true passes-is true whole-is true right-is accepted-by = (record { bank = is-accepted (foundIn (setup .bank)) passes-is; alarms = right-is }, whole-is)
+      go true passes-is true whole-is false right-is accepted-by = absurd (false≢true accepted-by)
+      go true passes-is false whole-is right right-is accepted-by = absurd (false≢true accepted-by)
+      go false passes-is whole whole-is right right-is accepted-by = absurd (false≢true accepted-by)

@@ -9,10 +9,11 @@ use Rattle.plain.specs.declared.Answer.{Answer}
 use Rattle.plain.specs.declared.Refusal.{Refusal}
 use Rattle.plain.specs.declared.Reply.{Reply}
 
--- the number of each refusal, 21 to 31
+-- the number of each refusal, in their order: 21, 22, 41, 23 to 31
 unfoldable pub numberOf : Refusal → ℕ
 numberOf Refusal.Unsound = 21
 numberOf Refusal.Buffer = 22
+numberOf Refusal.AlarmSetting = 41
 numberOf Refusal.PowerOff = 23
 numberOf Refusal.PowerOn = 24
 numberOf Refusal.Outside = 25

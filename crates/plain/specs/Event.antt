@@ -9,13 +9,14 @@ use Rattle.bank.specs.Check.{foundIn}
 use Rattle.measure.specs.declared.Measured.{Measured}
 use Rattle.measure.specs.declared.Reading.{Reading}
 use Rattle.position.specs.declared.Command.{Command}
+use Rattle.alarm.specs.Alarm.{allClear}
 use Rattle.plain.specs.declared.Run.{Run}
 use Rattle.plain.specs.declared.Credit.{Credit}
 use Rattle.plain.specs.declared.Event.{Event}
 use Rattle.plain.specs.declared.Refusal.{Refusal}
 use Rattle.plain.specs.declared.Answer.{Answer}
 use Rattle.plain.specs.declared.Effect.{Effect}
-use Rattle.plain.specs.Record.{recordOf, positionIn, creditsIn, sized}
+use Rattle.plain.specs.Record.{Checkpoint, recordOf, positionIn, creditsIn, alarmsIn, sized}
 use Rattle.plain.specs.Setup.{Setup}
 use Rattle.plain.specs.Answer.{numbersOf}
 use Rattle.plain.specs.Run.{freshRun, saved, readableIn, shownIn, credited, tickRun, tickCredit, tickSaves, commandRun, commandCredit, returnRun}
@@ -39,6 +40,7 @@ darkRun =
       position = record { mode = 0; pattern = 0; step = 0; pass = 0; elapsed = 0; waited = 0; base = pos 0 };
       unsaved = 0;
       measured = Measured.NoReading;
+      alarms = allClear;
     }
 
 unfoldable pub dark : State
@@ -56,9 +58,12 @@ after state store answer = record { state = state; store = store; answer = answe
 
 -- ---- saving
 
--- the record of a run and credits
+-- what the record holds of a run and credits, and the record
+abbrev pub checkpointFor : Run → List ℕ → Checkpoint
+checkpointFor run credits = record { position = run .position; credits = credits; alarms = run .alarms }
+
 abbrev pub recordFor : Run → List ℕ → List ℕ
-recordFor run credits = recordOf (record { position = run .position; credits = credits })
+recordFor run credits = recordOf (checkpointFor run credits)
 
 -- what an effect leaves of a record and credits: saving writes the record whole from the state that the event leaves
 abbrev pub applied : List ℕ → List ℕ → Effect → After
@@ -110,7 +115,7 @@ cutEffect setup =
 
 -- what a record brings back, before the choices
 unfoldable pub broughtBack : List ℕ → Run
-broughtBack store = record { position = positionIn store; unsaved = 0; measured = Measured.NoReading }
+broughtBack store = record { position = positionIn store; unsaved = 0; measured = Measured.NoReading; alarms = alarmsIn store }
 
 -- a return brings back the record, takes its reading as a first reading, and saves
 abbrev pub returnEffect : Setup → List ℕ → Reading → Effect

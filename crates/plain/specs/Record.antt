@@ -10,6 +10,8 @@ use mir.Val.{ofZ}
 use Rattle.field.specs.Field.{field, signedField}
 use Rattle.field.specs.Row.{row, rowAt, total}
 use Rattle.position.specs.declared.Position.{Position}
+use Rattle.alarm.specs.declared.Alarms.{Alarms}
+use Rattle.alarm.specs.Part.{alarmWidths, alarmNumbers, alarmsAt}
 
 -- ---- parts: numbers in bytes, low byte first
 
@@ -36,6 +38,7 @@ numbersIn (part ∷ parts) held = part .numbers held ++ numbersIn parts held
 pub record Checkpoint : Type 0 where
   pub position : Position
   pub credits : List ℕ
+  pub alarms : Alarms
 
 -- a position: mode, p, k (a byte each), r (16 bits), e, w (32 each), b (signed 16)
 abbrev pub positionWidths : List ℕ
@@ -54,14 +57,18 @@ abbrev pub parts : List (Part Checkpoint)
 parts =
     record { widths = positionWidths; numbers = λ checkpoint. positionNumbers (checkpoint .position) }
     ∷ record { widths = creditWidths; numbers = λ checkpoint. checkpoint .credits }
+    ∷ record { widths = alarmWidths; numbers = λ checkpoint. alarmNumbers (checkpoint .alarms) }
     ∷ []
 
--- the size of the record, and where its credits begin
+-- the size of the record, and where its credits and its alarms begin
 abbrev pub recordSize : ℕ
 recordSize = sizeOf parts
 
 abbrev pub creditsFrom : ℕ
 creditsFrom = sizeOf (take 1 parts)
+
+abbrev pub alarmsFrom : ℕ
+alarmsFrom = sizeOf (take 2 parts)
 
 -- saving writes the record whole
 unfoldable pub recordOf : Checkpoint → List ℕ
@@ -83,8 +90,11 @@ positionIn store =
 unfoldable pub creditsIn : List ℕ → List ℕ
 creditsIn store = rowAt creditWidths store creditsFrom
 
+unfoldable pub alarmsIn : List ℕ → Alarms
+alarmsIn store = alarmsAt store alarmsFrom
+
 abbrev pub checkpointIn : List ℕ → Checkpoint
-checkpointIn store = record { position = positionIn store; credits = creditsIn store }
+checkpointIn store = record { position = positionIn store; credits = creditsIn store; alarms = alarmsIn store }
 
 -- whether a buffer has the record's size (if not, refusal 22)
 unfoldable pub sized : List ℕ → Bool

@@ -13,6 +13,7 @@ use Rattle.position.specs.Command.{takesOf, selectsOf, isStart, lacksValue, stu
 use Rattle.position.specs.declared.Position.{Position}
 use Rattle.position.specs.declared.Here.{Here}
 use Rattle.position.specs.declared.Command.{Command}
+use Rattle.alarm.specs.Alarm.{allInRange}
 use Rattle.plain.specs.declared.Run.{Run}
 use Rattle.plain.specs.declared.Event.{Event}
 use Rattle.plain.specs.declared.Refusal.{Refusal}
@@ -59,11 +60,14 @@ pub record Retained : Type 0 where
 abbrev pub noRecord : Retained
 noRecord = record { fits = true; readable = true }
 
--- ---- the rows, lower numbers first
+-- ---- the rows, lower numbers first; the settings' own, 41, come after 22
 
 -- of buffers and settings, which making judges too
 abbrev pub callRows : Setup → Retained → List Row
-callRows setup retained = (Refusal.Buffer, not (retained .fits)) ∷ []
+callRows setup retained =
+    (Refusal.Buffer, not (retained .fits))
+    ∷ (Refusal.AlarmSetting, not (allInRange (setup .config .alarms)))
+    ∷ []
 
 -- of a command on a position
 abbrev pub commandRows : Settings → Here → Whole → Position → Command → List Row

@@ -10,53 +10,57 @@ use Rattle.measure.specs.Filter.{afterOf, firstOf, wholeOf, soundOf}
 use Rattle.measure.specs.declared.Measured.{Measured}
 use Rattle.measure.specs.declared.Reading.{Reading}
 use Rattle.position.specs.Tests.{either, all}
-use Rattle.position.specs.Program.{shownOf, tickPosition}
+use Rattle.position.specs.Program.{setValueOf, shownOf, tickPosition}
 use Rattle.position.specs.Command.{stopPosition, isStart, commandPosition}
 use Rattle.position.specs.Return.{returnPosition, readableOf}
 use Rattle.position.specs.declared.Position.{Position}
 use Rattle.position.specs.declared.Here.{Here}
 use Rattle.position.specs.declared.Shown.{Shown}
 use Rattle.position.specs.declared.Command.{Command}
+use Rattle.alarm.specs.Alarm.{allClear, keptIn, tickAlarms, allBounded}
 use Rattle.plain.specs.declared.Run.{Run}
 use Rattle.plain.specs.declared.Credit.{Credit}
+use Rattle.plain.specs.declared.Config.{Config}
 use Rattle.plain.specs.Setup.{Setup, settingsIn, hereIn}
 
 -- ---- a run: all of the state that an event moves, but power and credits
 
 -- fresh: mode 0, p = k = r = 1, all else 0, no reading
 abbrev pub freshRun : Run
-freshRun = record { position = stopPosition 1; unsaved = 0; measured = Measured.NoReading }
+freshRun = record { position = stopPosition 1; unsaved = 0; measured = Measured.NoReading; alarms = allClear }
 
--- a tick, a command and a return replace the position so, and nothing else does
+-- a command and a return replace the position so; any move to stopped clears flags and counts of the alarms
 abbrev pub movedTo : Run → Position → Run
-movedTo run position = record { position = position; unsaved = run .unsaved; measured = run .measured }
+movedTo run position =
+    record { position = position; unsaved = run .unsaved; measured = run .measured; alarms = keptIn (position .mode) (run .alarms) }
 
 -- saving sets u to 0
 abbrev pub saved : Run → Run
-saved run = record { position = run .position; unsaved = 0; measured = run .measured }
+saved run = record { position = run .position; unsaved = 0; measured = run .measured; alarms = run .alarms }
 
 -- what a record can bring back: each part that it has of a run is readable
-abbrev pub readableBy : Settings → Here → Run → Bool
-readableBy settings here run =
+abbrev pub readableBy : Config → Settings → Here → Run → Bool
+readableBy config settings here run =
     all
     (readableOf settings here (run .position)
+    ∷ allBounded (config .alarms) (run .position .mode) (run .alarms)
     ∷ [])
 
--- sound with power on: the position is readable, u < 60, any y lies within −19,999 and 29,999
-unfoldable pub soundBy : Settings → Here → Run → Bool
-soundBy settings here run =
+-- sound with power on: the position is readable, the alarms are within their bounds, u < 60, any y lies within −19,999 and 29,999
+unfoldable pub soundBy : Config → Settings → Here → Run → Bool
+soundBy config settings here run =
     all
-    (readableBy settings here run
+    (readableBy config settings here run
     ∷ ltb (run .unsaved) 60
     ∷ soundOf (run .measured)
     ∷ [])
 
 -- both, and what an accepted answer shows, over a setup
 abbrev pub readableIn : Setup → Run → Bool
-readableIn setup run = readableBy (settingsIn setup) (hereIn setup (run .position)) run
+readableIn setup run = readableBy (setup .config) (settingsIn setup) (hereIn setup (run .position)) run
 
 abbrev pub soundIn : Setup → Run → Bool
-soundIn setup run = soundBy (settingsIn setup) (hereIn setup (run .position)) run
+soundIn setup run = soundBy (setup .config) (settingsIn setup) (hereIn setup (run .position)) run
 
 abbrev pub shownIn : Setup → Run → Shown
 shownIn setup run = shownOf (settingsIn setup) (hereIn setup (run .position)) (run .position)
@@ -83,21 +87,42 @@ measuring settings reading run =
       position = run .position;
       unsaved = run .unsaved;
       measured = afterOf (run .measured) reading (settings .filter);
+      alarms = run .alarms;
     }
 
 -- u gains 1
 unfoldable pub counting : Run → Run
-counting run = record { position = run .position; unsaved = run .unsaved + 1; measured = run .measured }
+counting run = record { position = run .position; unsaved = run .unsaved + 1; measured = run .measured; alarms = run .alarms }
 
 -- in mode 1 a second of the step passes
 unfoldable pub stepping : Here → Run → Run
-stepping here run = movedTo run (tickPosition here (wholeOf (run .measured)) (run .position))
+stepping here run =
+    record {
+      position = tickPosition here (wholeOf (run .measured)) (run .position);
+      unsaved = run .unsaved;
+      measured = run .measured;
+      alarms = run .alarms;
+    }
 
+-- the tick's own step
 unfoldable pub tickBy : Settings → Here → Reading → Run → Run
 tickBy settings here reading run = stepping here (counting (measuring settings reading run))
 
+-- the alarms are judged after it, by the measured whole value and the set value of then
+unfoldable pub judging : Config → Here → Run → Run
+judging config here run =
+    record {
+      position = run .position;
+      unsaved = run .unsaved;
+      measured = run .measured;
+      alarms = tickAlarms (config .alarms) (run .position .mode) (wholeOf (run .measured)) (setValueOf here (run .position)) (run .alarms);
+    }
+
+abbrev pub judgedIn : Setup → Run → Run
+judgedIn setup run = judging (setup .config) (hereIn setup (run .position)) run
+
 abbrev pub tickRun : Setup → Reading → Run → Run
-tickRun setup reading run = tickBy (settingsIn setup) (hereIn setup (run .position)) reading run
+tickRun setup reading run = judgedIn setup (tickBy (settingsIn setup) (hereIn setup (run .position)) reading run)
 
 -- in mode 1 credit of step k gains 1, mode and step taken as before the tick
 unfoldable pub tickCredit : Position → Credit
@@ -112,9 +137,19 @@ tickSaves before after =
 
 -- ---- a command
 
+-- a start clears flags and counts of the alarms
+abbrev pub clearedBy : Command → Run → Run
+clearedBy command run =
+    record {
+      position = run .position;
+      unsaved = run .unsaved;
+      measured = run .measured;
+      alarms = cond (isStart command) allClear (run .alarms);
+    }
+
 abbrev pub commandRun : Setup → Command → Run → Run
 commandRun setup command run =
-    movedTo run
+    movedTo (clearedBy command run)
     (commandPosition (settingsIn setup) (hereIn setup (run .position)) (wholeOf (run .measured)) (run .position) command)
 
 -- start sets the credits to 0
@@ -124,7 +159,7 @@ commandCredit command = cond (isStart command) Credit.Clear Credit.Keep
 -- ---- a return: the reading becomes a first reading, u is 0, the choices apply
 
 abbrev pub readFirst : Reading → Run → Run
-readFirst reading run = record { position = run .position; unsaved = 0; measured = firstOf reading }
+readFirst reading run = record { position = run .position; unsaved = 0; measured = firstOf reading; alarms = run .alarms }
 
 unfoldable pub returnBy : Settings → Here → Reading → Run → Run
 returnBy settings here reading run =

@@ -1,4 +1,6 @@
 // What the controller's definitions speak of: a run, what an event does to it, and the answers. There is no code here.
+use alarm::AlarmSettings;
+use alarm::Alarms;
 use measure::Measured;
 use measure::Reading;
 use position::Command;
@@ -6,11 +8,17 @@ use position::Position;
 use position::Shown;
 use setting::Checked;
 
+// The settings that go beside the bank.
+pub struct Config {
+    pub alarms: AlarmSettings,
+}
+
 // What an event moves.
 pub struct Run {
     pub position: Position,
     pub unsaved: u8, // u, ticks since the last save
     pub measured: Measured,
+    pub alarms: Alarms,
 }
 
 // The events.
@@ -39,6 +47,7 @@ pub enum Credit {
 pub enum Refusal {
     Unsound,
     Buffer,
+    AlarmSetting,
     PowerOff,
     PowerOn,
     Outside,

@@ -2,6 +2,8 @@
 ghost use mathlib.Core.Path.{_≡_};
 ghost use Prim.Native.Nat.{_+_, _-_, min};
 ghost use Rattle.plain.specs.Event.{darkRun};
+use alarm::Alarm;
+use alarm::Alarms;
 use measure::Measured;
 use plain::Run;
 use position::Position;
@@ -10,6 +12,7 @@ use position::Position;
 pub fn dark_run() -> Run
     ensures { λ result. ⌜ result ≡ darkRun ⌝ }
 {
+    let clear = Alarm { flags: 0, count: 0 };
     Run {
         position: Position {
             mode: 0,
@@ -22,6 +25,12 @@ pub fn dark_run() -> Run
         },
         unsaved: 0,
         measured: Measured::NoReading,
+        alarms: Alarms {
+            first: clear,
+            second: clear,
+            third: clear,
+            fourth: clear,
+        },
     }
 }
 

@@ -18,14 +18,18 @@ use Rattle.position.specs.Program.{limitOf, hereOf, active, toward, rampOf, set
 use Rattle.position.specs.Program.{nextPosition, tickPosition, signalOf, signalsOf, shownOf}
 use Rattle.position.specs.Command.{takesOf, selectsOf, isStart, isValue, valueOf, startBase, lacksValue, stuckOf, commandPosition}
 use Rattle.position.specs.Return.{goesOn, returnPosition, timesRight, clearedOf, readableOf}
+use Rattle.alarm.specs.Alarm.{inRange as settingInRange, allInRange, judgedValue, condition, flagsOf, holdsAt, waits, onAfter, passedAfter, countAfter}
+use Rattle.alarm.specs.Alarm.{alarmAfter, judgedBy, keptIn, tickAlarms, bounded, allBounded}
+use Rattle.alarm.specs.Part.{alarmsAt}
 use Rattle.plain.specs.Answer.{numberOf as refusalNumber, numbersOf}
 use Rattle.plain.specs.Event.{fresh, darkRun, dark, cutEffect, broughtBack, retainedIn, knownEffect, eventEffect, eventOutcome, makeOutcome}
-use Rattle.plain.specs.Record.{widthsOf, numbersIn, creditWidths, recordOf, positionIn, creditsIn, sized}
+use Rattle.plain.specs.Record.{widthsOf, numbersIn, creditWidths, recordOf, positionIn, creditsIn, alarmsIn, sized}
 use Rattle.plain.specs.Refusals.{soundState}
-use Rattle.plain.specs.Run.{soundBy, cooked, credited, measuring, counting, stepping, tickBy, tickCredit, tickSaves, returnBy}
+use Rattle.plain.specs.Run.{soundBy, cooked, credited, measuring, counting, stepping, judging, tickBy, tickCredit, tickSaves, returnBy}
 use Rattle.plain.specs.Setup.{hereIn}
 use Rattle.key.specs.Line.{areDigits, readOn, unsigned, negated, numberOf, keyOf, isOnly, tick, return, tickOf, returnOf, valued, askedBy}
 use Rattle.decimal.specs.Text.{decimal, text, lineOf}
+use Rattle.line.specs.Beside.{sheetConfig}
 use Rattle.line.specs.Sheet.{linesFrom, nextLine, answersTo, made, allOf, sheetText}
 use Rattle.line.specs.Text.{eight, refusal, showing, askedFor, answeredTo}
 use Rattle.starred.specs.Table.{bytes, table, Holds}
@@ -39,10 +43,12 @@ unfolding add sub mul div ofInt le toBits num field digits stored signedField ro
     lagged kept afterOf firstReading inRange nearest wholeOf soundOf outsideOf either all zeroZ apart ordinal
     limitOf hereOf active toward rampOf setValueOf nearOf pastOf inZoneOf secondPosition leavesOf
     nextPosition tickPosition signalOf signalsOf shownOf takesOf selectsOf isStart isValue valueOf startBase lacksValue stuckOf commandPosition
-    goesOn returnPosition timesRight clearedOf readableOf refusalNumber numbersOf
+    goesOn returnPosition timesRight clearedOf readableOf
+    settingInRange allInRange judgedValue condition flagsOf holdsAt waits onAfter passedAfter countAfter
+    alarmAfter judgedBy keptIn tickAlarms bounded allBounded alarmsAt refusalNumber numbersOf
     fresh darkRun dark cutEffect broughtBack retainedIn knownEffect eventEffect eventOutcome makeOutcome
-    widthsOf numbersIn creditWidths recordOf positionIn creditsIn sized soundState
-    soundBy cooked credited measuring counting stepping tickBy tickCredit tickSaves returnBy hereIn
+    widthsOf numbersIn creditWidths recordOf positionIn creditsIn alarmsIn sized soundState
+    soundBy cooked credited measuring counting stepping judging tickBy tickCredit tickSaves returnBy hereIn
     areDigits readOn unsigned negated numberOf keyOf isOnly tick return tickOf returnOf valued askedBy decimal text lineOf
-    linesFrom nextLine answersTo made allOf sheetText eight refusal showing askedFor answeredTo bytes
+    sheetConfig linesFrom nextLine answersTo made allOf sheetText eight refusal showing askedFor answeredTo bytes
 starred = (refl, (refl, (refl, (refl, (refl, (refl, (refl, tt)))))))

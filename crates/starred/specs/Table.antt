@@ -19,7 +19,8 @@ use Rattle.measure.specs.declared.Measured.{Measured}
 use Rattle.measure.specs.declared.Reading.{Reading}
 use Rattle.measure.specs.declared.Whole.{Whole}
 use Rattle.position.specs.Program.{hereOf, rampOf}
-use Rattle.plain.specs.Setup.{Setup, over}
+use Rattle.plain.specs.Setup.{Setup}
+use Rattle.line.specs.Beside.{sheetOver}
 use Rattle.line.specs.Sheet.{sheetText, allOf}
 
 -- the bytes of a text
@@ -72,7 +73,7 @@ abbrev pub pattern : Pattern
 pattern = record { runs = 1; count = 2; steps = plainStep (pos 600) 2 ∷ plainStep (pos 600) 1 ∷ [] }
 
 abbrev pub setup : Setup
-setup = over (encode settings (pattern ∷ []))
+setup = sheetOver (encode settings (pattern ∷ []))
 
 -- the set value over a ramp: b, target, minutes, e
 abbrev pub ramp : ℤ → ℤ → ℕ → ℕ → ℤ

@@ -1,9 +1,10 @@
 // Numbers written into bytes, low byte first, at an offset. A write that does not fit changes nothing, so no function asks anything of its caller.
 ghost use mathlib.Core.Path.{_≡_};
+ghost use mathlib.Core.Bool.{cond};
 ghost use Prim.Native.Nat.{_+_, _≤_};
 ghost use lib.ListN.{length};
 ghost use lib.Seq.{sets};
-ghost use lib.Dec.{leb};
+ghost use lib.Dec.{eqb, leb};
 ghost use Rattle.field.specs.Field.{digits, stored};
 ghost use Rattle.field.specs.Row.{row, total, storedRow, RowFits};
 
@@ -76,6 +77,20 @@ fn put_all(buffer: &mut [u8], at: usize, widths: &[u8], numbers: &[u32])
         let width = widths[i] as usize;
         put_digits(buffer, to, width, numbers[i] as u64);
         to += width;
+        i += 1;
+    }
+}
+
+// A buffer becomes the copy of one that has its length; any other is left as it was.
+pub fn copy(buffer: &mut [u8], source: &[u8])
+    ensures { λ _. ⌜ now (buffer .exit) ≡ cond (eqb (length (now (buffer .entry))) (length (now (source .entry)))) (now (source .entry)) (now (buffer .entry)) ⌝ }
+{
+    if buffer.len() != source.len() {
+        return;
+    }
+    let mut i: usize = 0;
+    while i < buffer.len() {
+        buffer[i] = source[i];
         i += 1;
     }
 }

@@ -65,7 +65,7 @@ no-part setup between store = record { input = []; is = refl }
 -- ---- from the beginning to the end
 
 pub all-lines : (setup : Setup) (out : List ℕ) (ran : Ran) (between : Between) {store store′ out′ : List ℕ} → isAccepted (foundIn (setup .bank)) ≡ true
-    → after ran store out′ ≡ startOf setup (replicate 411 0) out → Whole setup (found (ran .between) store) (found between store′)
+    → after ran store out′ ≡ startOf setup (replicate 423 0) out → Whole setup (found (ran .between) store) (found between store′)
     → All setup (stateOf (between .state))
 all-lines setup out ran between ok h whole =
     record {

@@ -4,7 +4,7 @@ ghost use mathlib.Core.Bool.{true};
 ghost use Prim.Native.Nat.{_≤_};
 ghost use lib.ListN.{length};
 ghost use Rattle.io.specs.Counts.{Counts};
-ghost use Rattle.plain.specs.Setup.{over};
+ghost use Rattle.line.specs.Beside.{sheetOver};
 ghost use Rattle.controller.specs.Holds.{stateOf};
 ghost use Rattle.line.specs.Part.{found};
 ghost use Rattle.terminal.specs.Input.{Turned, Whole, All};
@@ -104,7 +104,7 @@ fn tell(out: &[u8], end: usize, shows: bool) -> bool {
 // Lines are read once, and run. Their text is shown before the next read, so that who types a line sees it.
 fn take_turn(bank: &[u8], store: &mut [u8], between: Between, out: &mut [u8], shows: bool) -> Turn
     requires { ⌜ 43008 ≤ length (now out) ⌝ }
-    ensures { λ result. ⌜ Turned (over (now (bank .entry))) (found between (now (store .entry))) (found (result .between) (now (store .exit))) (result .«goes_on») (result .«is_whole») ⌝ }
+    ensures { λ result. ⌜ Turned (sheetOver (now (bank .entry))) (found between (now (store .entry))) (found (result .between) (now (store .exit))) (result .«goes_on») (result .«is_whole») ⌝ }
 {
     let mut input = [0u8; 256];
     let got = libc::read(STDIN_FILENO, &mut input);
@@ -138,7 +138,7 @@ fn take_turn(bank: &[u8], store: &mut [u8], between: Between, out: &mut [u8], sh
 // Lines are read until they end, or a read or a write fails. A proved loop has to end, and nothing says that the lines do, so the loop
 // counts its turns down, from a number that no run uses up.
 fn run_lines(bank: &[u8], store: &mut [u8], between: Between, shows: bool) -> Ended
-    ensures { λ result. ⌜ (result .«is_whole» ≡ true → Whole (over (now (bank .entry))) (found between (now (store .entry))) (found (result .between) (now (store .exit)))) ⌝ }
+    ensures { λ result. ⌜ (result .«is_whole» ≡ true → Whole (sheetOver (now (bank .entry))) (found between (now (store .entry))) (found (result .between) (now (store .exit)))) ⌝ }
 {
     let mut out = io::large_buffer();
     let mut turn = Turn {
@@ -164,9 +164,9 @@ fn run_lines(bank: &[u8], store: &mut [u8], between: Between, shows: bool) -> En
 
 // A controller is made over the bank, and the lines are run by it. A refused bank prints its refusal's numbers and nothing more.
 pub fn run_bank(bank: &[u8], shows: bool) -> Ended
-    ensures { λ result. ⌜ (result .«is_whole» ≡ true → All (over (now (bank .entry))) (stateOf (result .between .state))) ⌝ }
+    ensures { λ result. ⌜ (result .«is_whole» ≡ true → All (sheetOver (now (bank .entry))) (stateOf (result .between .state))) ⌝ }
 {
-    let mut store = [0u8; 411];
+    let mut store = [0u8; checkpoint::SIZE];
     let mut out = [0u8; 168];
     let started = line::start(bank, &mut store, &mut out);
     let ran = started.ran;

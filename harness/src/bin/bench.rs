@@ -4,12 +4,14 @@
 
 use std::process::ExitCode;
 
+use harness::alarms::{between, STANDBY};
 use harness::banks::{self, Draft};
 use harness::events::{self, list_bytes, Raw};
 use harness::oracle::{self, RECORD, STATE};
 use harness::random::Random;
+use harness::setup::Setup;
 use harness::timing;
-use model::Event;
+use model::{Config, Event};
 
 const SEED: u64 = 7;
 /// Events of a measurement of single events.
@@ -74,49 +76,60 @@ fn model_events(list: &[Raw]) -> Vec<Event> {
     oracle::events_of(&list_bytes(list)).expect("the list holds known kinds")
 }
 
-fn library_one_by_one(bank: &[u8], list: &[Raw]) -> u64 {
+fn library_one_by_one(setup: &Setup, list: &[Raw]) -> u64 {
+    let (bank, config) = (&setup.bank[..], &setup.config_bytes[..]);
     let (mut record, mut state) = ([0; RECORD], [0; STATE]);
-    let made = cook::make(bank, &mut record, &mut state).word();
-    list.iter().fold(made, |sum, &(kind, value)| {
-        let outcome = cook::raw_event(bank, &mut record, &mut state, kind, value);
+    let made = cook::make(bank, config, &mut record, &mut state).word();
+    let word = list.iter().fold(made, |sum, &(kind, value)| {
+        let outcome = cook::raw_event(bank, config, &mut record, &mut state, kind, value);
         sum.wrapping_mul(31).wrapping_add(outcome.word())
-    })
+    });
+    digest(word, &state)
 }
 
-fn model_one_by_one(bank: &[u8], events: &[Event]) -> u64 {
+fn model_one_by_one(setup: &Setup, events: &[Event]) -> u64 {
+    let (bank, config) = (&setup.bank[..], &setup.config);
     let mut record = [0; RECORD];
-    let Ok((mut state, made)) = model::make(bank, &mut record) else {
+    let Ok((mut state, made)) = model::make(bank, config, &mut record) else {
         return 0;
     };
-    events
-        .iter()
-        .fold(oracle::answer_word(&made), |sum, &event| {
-            let answer = model::event(bank, &mut record, &mut state, event);
-            sum.wrapping_mul(31)
-                .wrapping_add(oracle::answer_word(&answer))
-        })
+    let made = oracle::answer_word(&made);
+    let word = events.iter().fold(made, |sum, &event| {
+        let answer = model::event(bank, config, &mut record, &mut state, event);
+        sum.wrapping_mul(31)
+            .wrapping_add(oracle::answer_word(&answer))
+    });
+    digest(word, &oracle::state_bytes(&state))
 }
 
-/// The last answer and the credits, as one number.
+/// A word and a state, as one number.
 fn digest(word: u64, state: &[u8]) -> u64 {
     state.iter().fold(word, |sum, &byte| {
         sum.wrapping_mul(31).wrapping_add(byte.into())
     })
 }
 
-fn library_run(bank: &[u8], list: &[u8]) -> u64 {
+fn library_run(setup: &Setup, list: &[u8]) -> u64 {
     let (mut record, mut state) = ([0; RECORD], [0; STATE]);
-    let word = cook::run(bank, &mut record, &mut state, list).word();
+    let word = cook::run(
+        &setup.bank,
+        &setup.config_bytes,
+        &mut record,
+        &mut state,
+        list,
+    )
+    .word();
     digest(word, &state)
 }
 
-fn model_run(bank: &[u8], events: &[Event]) -> u64 {
+fn model_run(setup: &Setup, events: &[Event]) -> u64 {
+    let (bank, config) = (&setup.bank[..], &setup.config);
     let mut record = [0; RECORD];
-    let Ok((mut state, mut answer)) = model::make(bank, &mut record) else {
+    let Ok((mut state, mut answer)) = model::make(bank, config, &mut record) else {
         return 0;
     };
     for &event in events {
-        answer = model::event(bank, &mut record, &mut state, event);
+        answer = model::event(bank, config, &mut record, &mut state, event);
     }
     digest(oracle::answer_word(&answer), &oracle::state_bytes(&state))
 }
@@ -128,18 +141,43 @@ fn checks(name: &str, bank: &[u8]) -> Result<(), String> {
     timing::compare(&format!("check, {name}"), CHECKS, &mut library, &mut model)
 }
 
-fn single(name: &str, bank: &[u8], list: &[Raw]) -> Result<(), String> {
+fn single(name: &str, setup: &Setup, list: &[Raw]) -> Result<(), String> {
     let events = model_events(list);
-    let mut library = || library_one_by_one(bank, list);
-    let mut model = || model_one_by_one(bank, &events);
+    let mut library = || library_one_by_one(setup, list);
+    let mut model = || model_one_by_one(setup, &events);
     timing::compare(name, list.len(), &mut library, &mut model)
 }
 
-fn long(name: &str, bank: &[u8], list: &[Raw]) -> Result<(), String> {
+fn long(name: &str, setup: &Setup, list: &[Raw]) -> Result<(), String> {
     let (bytes, events) = (list_bytes(list), model_events(list));
-    let mut library = || library_run(bank, &bytes);
-    let mut model = || model_run(bank, &events);
+    let mut library = || library_run(setup, &bytes);
+    let mut model = || model_run(setup, &events);
     timing::compare(name, list.len(), &mut library, &mut model)
+}
+
+/// Four alarms that go on and off while the room is near a step's target.
+fn four_alarms(target: i16) -> Config {
+    let (below, above) = (target.max(-19_899) - 100, target.min(29_899) + 100);
+    let mut alarms = [
+        between(1, -40, 40, 2, 0),
+        between(2, 0, 20, 0, 0),
+        between(5, below, target, 3, STANDBY),
+        between(8, target, above, 1, 0),
+    ];
+    for alarm in &mut alarms {
+        alarm.sensitivity = 5;
+    }
+    Config { alarms }
+}
+
+/// Ticks with four alarms set, in a long list and one by one.
+fn alarms(random: &mut Random) -> Result<(), String> {
+    let draft = bank(random, false);
+    let setup = Setup::new(draft.bank(), four_alarms(draft.steps[0].target));
+    let list = cook(random, &draft, LONG, false);
+    long("long list, ticks, small bank, alarms", &setup, &list)?;
+    let list = cook(random, &draft, SINGLE, false);
+    single("single events, ticks, small bank, alarms", &setup, &list)
 }
 
 fn bench() -> Result<(), String> {
@@ -147,16 +185,16 @@ fn bench() -> Result<(), String> {
     timing::heading();
     for (size, large) in [("small bank", false), ("large bank", true)] {
         let draft = bank(&mut random, large);
-        let bytes = draft.bank();
-        checks(size, &bytes)?;
+        let setup = Setup::new(draft.bank(), Config::default());
+        checks(size, &setup.bank)?;
         for (kind, mixed) in [("ticks", false), ("mixed", true)] {
             let list = cook(&mut random, &draft, SINGLE, mixed);
-            single(&format!("single events, {kind}, {size}"), &bytes, &list)?;
+            single(&format!("single events, {kind}, {size}"), &setup, &list)?;
             let list = cook(&mut random, &draft, LONG, mixed);
-            long(&format!("long list, {kind}, {size}"), &bytes, &list)?;
+            long(&format!("long list, {kind}, {size}"), &setup, &list)?;
         }
     }
-    Ok(())
+    alarms(&mut random)
 }
 
 fn main() -> ExitCode {

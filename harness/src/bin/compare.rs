@@ -154,6 +154,9 @@ fn other_work(from: Instant, comparer: &mut Comparer, random: &mut Random) -> Co
     said("lists to the last pass", from, || {
         lists::to_the_last_pass(comparer, random)
     })?;
+    said("lists to the longest delay", from, || {
+        lists::to_the_longest_delay(comparer, random)
+    })?;
     OTHER_PARTS
         .into_iter()
         .try_for_each(|part| rounds(part, from, comparer, random))

@@ -21,6 +21,8 @@ extern "C" {
     fn cook_make(
         bank: *const u8,
         bank_len: usize,
+        config: *const u8,
+        config_len: usize,
         record: *mut u8,
         record_len: usize,
         state: *mut u8,
@@ -29,6 +31,8 @@ extern "C" {
     fn cook_event(
         bank: *const u8,
         bank_len: usize,
+        config: *const u8,
+        config_len: usize,
         record: *mut u8,
         record_len: usize,
         state: *mut u8,
@@ -39,6 +43,8 @@ extern "C" {
     fn cook_run(
         bank: *const u8,
         bank_len: usize,
+        config: *const u8,
+        config_len: usize,
         record: *mut u8,
         record_len: usize,
         state: *mut u8,
@@ -72,12 +78,15 @@ pub fn write(settings: &[u8], patterns: &[u8], steps: &[u8], out: &mut [u8]) -> 
     })
 }
 
-/// Makes a fresh controller: its state and its record.
-pub fn make(bank: &[u8], record: &mut [u8], state: &mut [u8]) -> Outcome {
+/// Makes a fresh controller: its state and its record. Here and below `config`
+/// is the bytes of a `Config`; another length than `CONFIG_LEN` is answered 99.
+pub fn make(bank: &[u8], config: &[u8], record: &mut [u8], state: &mut [u8]) -> Outcome {
     Outcome::from_word(unsafe {
         cook_make(
             bank.as_ptr(),
             bank.len(),
+            config.as_ptr(),
+            config.len(),
             record.as_mut_ptr(),
             record.len(),
             state.as_mut_ptr(),
@@ -87,13 +96,20 @@ pub fn make(bank: &[u8], record: &mut [u8], state: &mut [u8]) -> Outcome {
 }
 
 /// Gives one event to a controller.
-pub fn event(bank: &[u8], record: &mut [u8], state: &mut [u8], event: Event) -> Outcome {
-    raw_event(bank, record, state, event.kind(), event.value())
+pub fn event(
+    bank: &[u8],
+    config: &[u8],
+    record: &mut [u8],
+    state: &mut [u8],
+    event: Event,
+) -> Outcome {
+    raw_event(bank, config, record, state, event.kind(), event.value())
 }
 
 /// Gives one event by kind and value; a kind above 14 is answered 99.
 pub fn raw_event(
     bank: &[u8],
+    config: &[u8],
     record: &mut [u8],
     state: &mut [u8],
     kind: u32,
@@ -103,6 +119,8 @@ pub fn raw_event(
         cook_event(
             bank.as_ptr(),
             bank.len(),
+            config.as_ptr(),
+            config.len(),
             record.as_mut_ptr(),
             record.len(),
             state.as_mut_ptr(),
@@ -115,11 +133,19 @@ pub fn raw_event(
 
 /// Makes a controller and gives it a list of events, `EVENT_LEN` bytes each
 /// (see `list_bytes`); the outcome is the answer to the last event.
-pub fn run(bank: &[u8], record: &mut [u8], state: &mut [u8], events: &[u8]) -> Outcome {
+pub fn run(
+    bank: &[u8],
+    config: &[u8],
+    record: &mut [u8],
+    state: &mut [u8],
+    events: &[u8],
+) -> Outcome {
     Outcome::from_word(unsafe {
         cook_run(
             bank.as_ptr(),
             bank.len(),
+            config.as_ptr(),
+            config.len(),
             record.as_mut_ptr(),
             record.len(),
             state.as_mut_ptr(),

@@ -17,7 +17,8 @@ impl Outcome {
         self.0
     }
 
-    /// 0 accepted, 11 to 31 a refusal of document 01, 99 a call of no known form.
+    /// 0 accepted, 11 to 31 a refusal of document 01, 41 an alarm setting out of
+    /// range, 99 a call of no known form.
     pub const fn number(self) -> u8 {
         self.0 as u8
     }

@@ -1,8 +1,10 @@
 //! A typed view of a state's bytes.
 
-use crate::{RECORD_LEN, STATE_LEN, STEP_COUNT};
+use crate::{ALARM_COUNT, RECORD_LEN, STATE_LEN, STEP_COUNT};
 
 const CREDITS: usize = 16;
+const ALARMS: usize = CREDITS + 4 * STEP_COUNT;
+const ALARM: usize = 3;
 const U: usize = 1 + RECORD_LEN;
 const MEASURED: usize = U + 1;
 const VALUE: usize = MEASURED + 1;
@@ -14,6 +16,27 @@ pub enum Measured {
     Over,
     Under,
     Value(f64),
+}
+
+/// What a state holds of an alarm.
+#[derive(Clone, Copy, Debug, Default, PartialEq, Eq)]
+pub struct Alarm {
+    /// On 1, standby passed 2.
+    pub flags: u8,
+    /// Ticks that the condition has lasted while the delay runs.
+    pub count: u16,
+}
+
+impl Alarm {
+    /// Whether the alarm is on.
+    pub const fn is_on(self) -> bool {
+        self.flags & 1 != 0
+    }
+
+    /// Whether the alarm has passed its standby; never without standby.
+    pub const fn has_passed(self) -> bool {
+        self.flags & 2 != 0
+    }
 }
 
 /// A controller's state.
@@ -39,6 +62,7 @@ pub struct State {
     pub measured: Measured,
     /// Seconds credited to each step.
     pub credits: [u32; STEP_COUNT],
+    pub alarms: [Alarm; ALARM_COUNT],
 }
 
 impl State {
@@ -57,6 +81,7 @@ impl State {
             u: bytes[U],
             measured: measured_of(bytes[MEASURED], u64::from_le_bytes(part(bytes, VALUE)))?,
             credits: std::array::from_fn(|i| u32::from_le_bytes(part(bytes, CREDITS + 4 * i))),
+            alarms: std::array::from_fn(|i| alarm_at(bytes, ALARMS + ALARM * i)),
         })
     }
 
@@ -74,9 +99,17 @@ impl State {
         for (credit, place) in self
             .credits
             .iter()
-            .zip(bytes[CREDITS..U].chunks_exact_mut(4))
+            .zip(bytes[CREDITS..ALARMS].chunks_exact_mut(4))
         {
             place.copy_from_slice(&credit.to_le_bytes());
+        }
+        for (alarm, place) in self
+            .alarms
+            .iter()
+            .zip(bytes[ALARMS..U].chunks_exact_mut(ALARM))
+        {
+            place[0] = alarm.flags;
+            place[1..].copy_from_slice(&alarm.count.to_le_bytes());
         }
         let (kind, value) = match self.measured {
             Measured::NoReading => (0, 0),
@@ -93,6 +126,13 @@ impl State {
 
 fn part<const N: usize>(bytes: &[u8; STATE_LEN], at: usize) -> [u8; N] {
     std::array::from_fn(|i| bytes[at + i])
+}
+
+fn alarm_at(bytes: &[u8; STATE_LEN], at: usize) -> Alarm {
+    Alarm {
+        flags: bytes[at],
+        count: u16::from_le_bytes(part(bytes, at + 1)),
+    }
 }
 
 fn power_of(byte: u8) -> Option<bool> {

@@ -1,10 +1,10 @@
-//! What the tests share: banks, states and a small random generator.
+//! What the tests share: banks, settings, states and a small random generator.
 
 #![allow(dead_code)]
 
 use model::{
-    make, write, Answer, Command, Contents, Event, Measured, Reading, Refusal, Settings, State,
-    Step,
+    make, write, Alarm, AlarmSetting, Answer, Command, Config, Contents, Event, Measured, Reading,
+    Refusal, Settings, State, Step,
 };
 
 /// The settings of the sheet example, for n patterns.
@@ -104,20 +104,56 @@ pub fn set_value(answer: Answer) -> i16 {
     }
 }
 
+/// The flags of an alarm's settings.
+pub const HOLD: u8 = 1;
+pub const STANDBY: u8 = 2;
+
+/// A setting out of range.
+pub const WRONG: AlarmSetting = AlarmSetting {
+    kind: 9,
+    ..alarm(0, 0, 0)
+};
+
+/// An alarm without sensitivity, delay and flags.
+pub const fn alarm(kind: u8, high: i16, low: i16) -> AlarmSetting {
+    AlarmSetting {
+        kind,
+        high,
+        low,
+        sensitivity: 0,
+        delay: 0,
+        flags: 0,
+    }
+}
+
+/// Settings whose alarm 1 is the given one, and the others of kind 0.
+pub fn config(alarm: AlarmSetting) -> Config {
+    let mut config = Config::default();
+    config.alarms[0] = alarm;
+    config
+}
+
 /// A controller with its retained memory.
 pub struct Controller {
     pub bank: Vec<u8>,
-    pub record: [u8; 411],
+    pub config: Config,
+    pub record: [u8; 423],
     pub state: State,
     pub answer: Answer,
 }
 
 impl Controller {
     pub fn new(bank: Vec<u8>) -> Self {
-        let mut record = [0xA5; 411];
-        let (state, answer) = make(&bank, &mut record).expect("the bank is accepted");
+        Self::with(bank, Config::default())
+    }
+
+    pub fn with(bank: Vec<u8>, config: Config) -> Self {
+        let mut record = [0xA5; 423];
+        let (state, answer) =
+            make(&bank, &config, &mut record).expect("bank and settings are accepted");
         Self {
             bank,
+            config,
             record,
             state,
             answer,
@@ -125,7 +161,13 @@ impl Controller {
     }
 
     pub fn send(&mut self, event: Event) -> Answer {
-        self.answer = model::event(&self.bank, &mut self.record, &mut self.state, event);
+        self.answer = model::event(
+            &self.bank,
+            &self.config,
+            &mut self.record,
+            &mut self.state,
+            event,
+        );
         self.answer
     }
 
@@ -152,6 +194,20 @@ impl Controller {
             ..
         } = self.state;
         (mode, k, r, e, w, b)
+    }
+
+    /// Flags and count of alarm 1.
+    pub fn alarm(&self) -> (u8, u16) {
+        let Alarm { flags, count } = self.state.alarms[0];
+        (flags, count)
+    }
+
+    pub fn sound(&self) -> bool {
+        model::sound(&self.bank, &self.config, &self.state)
+    }
+
+    pub fn readable(&self) -> bool {
+        model::readable(&self.bank, &self.config, &self.record)
     }
 }
 
@@ -244,6 +300,68 @@ impl Random {
         out
     }
 
+    /// An alarm in range, with bounds among the readings that are made here.
+    pub fn alarm_setting(&mut self) -> AlarmSetting {
+        let kind = self.between(0, 8) as u8;
+        let (one, other) = (self.between(-400, 900), self.between(-400, 900));
+        let mut bounds = (one as i16, other as i16);
+        if matches!(kind, 4 | 8) || !self.one_in(6) {
+            bounds = (bounds.0.max(bounds.1), bounds.0.min(bounds.1));
+        }
+        if self.one_in(20) {
+            bounds = (29_999, -19_999);
+        }
+        AlarmSetting {
+            kind,
+            high: bounds.0,
+            low: bounds.1,
+            sensitivity: self.pick(&[0, 0, 1, 50, 300, 9_999]),
+            delay: self.pick(&[0, 0, 0, 1, 1, 2, 3, 9_999]),
+            flags: self.pick(&[0, 0, 0, HOLD, STANDBY, STANDBY, HOLD | STANDBY]),
+        }
+    }
+
+    pub fn config(&mut self) -> Config {
+        Config {
+            alarms: std::array::from_fn(|_| self.alarm_setting()),
+        }
+    }
+
+    /// Settings of which one field may be out of range.
+    pub fn any_config(&mut self) -> Config {
+        let mut config = self.config();
+        let alarm = &mut config.alarms[self.between(0, 3) as usize];
+        match self.between(0, 20) {
+            0 => alarm.kind = self.between(0, 255) as u8,
+            1 => alarm.high = self.next() as i16,
+            2 => alarm.low = self.next() as i16,
+            3 => alarm.sensitivity = self.next() as u16,
+            4 => alarm.delay = self.next() as u16,
+            5 => alarm.flags = self.between(0, 255) as u8,
+            _ => {}
+        }
+        config
+    }
+
+    /// An alarm that may be sound or not, most often sound.
+    pub fn alarm(&mut self, setting: &AlarmSetting) -> Alarm {
+        let delay = setting.delay;
+        let mut alarm = Alarm {
+            flags: match setting.flags & STANDBY {
+                0 => self.pick(&[0, 1]),
+                _ => self.pick(&[0, 2, 3]),
+            },
+            count: self.pick(&[0, delay.min(1), delay]),
+        };
+        match self.between(0, 24) {
+            0 => alarm.flags = self.pick(&[0, 1, 2, 3, 4, 255]),
+            1 => alarm.count = self.pick(&[1, 2, 3, 9_999, 10_000, u16::MAX]),
+            2 => alarm.count = delay.saturating_add(1),
+            _ => {}
+        }
+        alarm
+    }
+
     pub fn reading(&mut self) -> Reading {
         match self.between(0, 24) {
             0 => Reading::Over,
@@ -290,7 +408,7 @@ impl Random {
     }
 
     /// A state in which every field may be sound or not, most often sound.
-    pub fn state(&mut self) -> State {
+    pub fn state(&mut self, config: &Config) -> State {
         let mode = self.pick(&[0, 1, 1, 2, 2, 3, 3, 4]);
         let cleared = mode == 0 || mode == 3;
         let mut state = State {
@@ -305,10 +423,14 @@ impl Random {
             u: self.pick(&[0, 1, 58, 59, 59, 60, 255]),
             measured: self.measured(),
             credits: [0; 99],
+            alarms: [Alarm::default(); 4],
         };
         if !cleared || self.one_in(8) {
             state.e = self.pick(&[0, 0, 1, 59, 60, 119, 120, 359_999, 360_000, u32::MAX]);
             state.b = self.pick(&[0, 1, 200, -19_999, 29_999, 30_000, i16::MIN]);
+        }
+        if mode != 0 || self.one_in(8) {
+            state.alarms = config.alarms.map(|setting| self.alarm(&setting));
         }
         state.credits.fill_with(|| {
             if self.one_in(9) {

@@ -49,10 +49,15 @@ returns-11 : tie.Need-returns-11
 unfolding numberOf
 returns-11 c = rw (c .enum-told11 .given .1) refl
 
+returns-12 : tie.Need-returns-12
+unfolding numberOf
+returns-12 c = rw (c .enum-told12 .given .1) refl
+
 pub of-refusal-spec : {M : Type 1} → statement M
 of-refusal-spec =
     tie.close
     (tie.spec
+    (λ c. search needs)
     (λ c. search needs)
     (λ c. search needs)
     (λ c. search needs)
@@ -74,4 +79,5 @@ of-refusal-spec =
     returns-8
     returns-9
     returns-10
-    returns-11)
+    returns-11
+    returns-12)

@@ -19,7 +19,7 @@ use Rattle.carried.proofs.event.Statement.{statement}
 use Rattle.carried.proofs.event.Tie as tie
 
 abbrev setupOf : tie.Start → Setup
-setupOf c = over (now (c .args .bank))
+setupOf c = over (now (c .args .bank)) (c .args .config)
 
 abbrev effectOf : tie.Start → Effect
 effectOf c = effectOn (setupOf c) (now (c .args .store)) (now (c .args .bytes)) (c .args .event)

@@ -36,7 +36,7 @@ returns c =
     let a = c .before .before .before .before .before .before .args in
     let found = numbers-tell (c .before .check .result) (foundIn (now (a .bank))) (c .before .check .ensures) in
     let denied = ap passes (sym found) ∙ bank-refused (c .before .check .result) (c .match .keys2) in
-    rw found (make-bank-first (over (now (a .bank))) (now (a .store)) (now (a .bytes)) denied)
+    rw found (make-bank-first (over (now (a .bank)) (a .config)) (now (a .store)) (now (a .bytes)) denied)
 
 returns-2 : tie.Need-returns-2
 returns-2 c =
@@ -44,7 +44,7 @@ returns-2 c =
     let check = c .before .before .check in
     let a = start .args in
     let found = numbers-tell (check .result) (foundIn (now (a .bank))) (check .ensures) in
-    make-no-room (over (now (a .bank))) (now (a .store)) (now (a .bytes)) (ap passes (sym found ∙ c .enum-told .given .1)) (no-room (c .before .before .before))
+    make-no-room (over (now (a .bank)) (a .config)) (now (a .store)) (now (a .bytes)) (ap passes (sym found ∙ c .enum-told .given .1)) (no-room (c .before .before .before))
 
 returns-3 : tie.Need-returns-3
 unfolding carriedOut isAccepted
@@ -55,7 +55,7 @@ returns-3 c =
     let enum-told2 = c .before .before .before .before .before .enum-told2 in
     let back11 = c .before .before .before .before .before .before .before .before .before .before .before in
     let a = start .args in
-    let made = ap (carriedOut (now (a .bytes))) (make .ensures) ∙ make-left (over (now (a .bank))) (now (a .store)) (now (a .bytes)) (room (back11)) in
+    let made = ap (carriedOut (now (a .bytes))) (make .ensures) ∙ make-left (over (now (a .bank)) (a .config)) (now (a .store)) (now (a .bytes)) (room (back11)) in
     rw (write .ensures, room (back11)) (rw (ap isAccepted (enum-told2 .given .1)) at made)
 
 returns-4 : tie.Need-returns-4
@@ -65,7 +65,7 @@ returns-4 c =
     let make = c .before .before .before .make in
     let back5 = c .before .before .before .before .before in
     let a = start .args in
-    let made = ap (carriedOut (now (a .bytes))) (make .ensures) ∙ make-left (over (now (a .bank))) (now (a .store)) (now (a .bytes)) (room (back5)) in
+    let made = ap (carriedOut (now (a .bytes))) (make .ensures) ∙ make-left (over (now (a .bank)) (a .config)) (now (a .store)) (now (a .bytes)) (room (back5)) in
     rw (is-refused (make .result .answer) (c .match2 .keys2)) at made
 
 pub make-spec : {M : Type 1} → statement M

@@ -27,13 +27,13 @@ returns c =
     let a = c .before .before .before .before .before .before .before .before .args in
     let make = c .before .before .before .make in
     let h = ap (λ (left : After). isAccepted (left .answer)) (sym (make .ensures)) ∙ is-refused (make .result .answer) (c .match .keys2) in
-    make .ensures ∙ sym (not-made (over (now (a .bank))) (now (a .store)) h (eventsIn (now (a .bytes))))
+    make .ensures ∙ sym (not-made (over (now (a .bank)) (a .config)) (now (a .store)) h (eventsIn (now (a .bytes))))
 
 run-from-requires : tie.Need-run-from-requires
 run-from-requires c κs =
     let a = c .before .before .before .before .before .before .before .before .before .before .args in
     let make = c .before .before .before .before .before .make in
-    made-stands (over (now (a .bank))) (now (a .store)) (make .result) _ (make .ensures) (is-accepted (make .result .answer) (c .before .before .match .keys1))
+    made-stands (over (now (a .bank)) (a .config)) (now (a .store)) (make .result) _ (make .ensures) (is-accepted (make .result .answer) (c .before .before .match .keys1))
 
 same-length-2 : tie.Need-same-length-2
 same-length-2 c = search needs
@@ -43,7 +43,7 @@ unfolding final
 returns-2 c =
     let a = c .before .before .before .before .before .before .before .before .before .before .before .before .before .args in
     c .before .before .run-from .ensures
-    ∙ ap (λ (left : After). eventsFrom (over (now (a .bank))) left (eventsIn (now (a .bytes)))) (c .before .before .before .before .before .before .before .before .make .ensures)
+    ∙ ap (λ (left : After). eventsFrom (over (now (a .bank)) (a .config)) left (eventsIn (now (a .bytes)))) (c .before .before .before .before .before .before .before .before .make .ensures)
 
 pub run-spec : {M : Type 1} → statement M
 run-spec =

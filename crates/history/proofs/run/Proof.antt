@@ -18,7 +18,7 @@ returns : tie.Need-returns
 unfolding dark
 returns c =
     let start = c .before .before .before .before .before .before in
-    let setup = over (now (start .args .bank)) in
+    let setup = over (now (start .args .bank)) (start .args .config) in
     let no-list : formed (now (start .args .events)) ≡ false = sym (c .before .before .is-list .ensures) ∙ not-true _ (c .before .if1 .taken) in
     let is = ap (λ (run : Run). afterRun (record { power = false; run = run; credits = dark .credits }) (now (start .args .store)) Reply.NoForm)
     (c .dark-run .ensures) ∙ sym (no-form setup (now (start .args .store)) (now (start .args .events)) no-list) in
@@ -28,7 +28,7 @@ returns-2 : tie.Need-returns-2
 returns-2 c =
     let at-run = c .before .before .before .before in
     let start = at-run .before .before .before .before .before .before .before in
-    let setup = over (now (start .args .bank)) in
+    let setup = over (now (start .args .bank)) (start .args .config) in
     let is-list : formed (now (start .args .events)) ≡ true = sym (at-run .before .before .before .is-list .ensures) ∙ not-false _ (at-run .before .before .if1 .left) in
     let is = ap given (at-run .run .ensures) ∙ sym (ran setup (now (start .args .store)) (now (start .args .events)) is-list) in
     (is, run-demand setup (now (start .args .store)) (now (start .args .events)) _ is)

@@ -6,7 +6,7 @@ use borrow.Author.Needs.{needs}
 use borrow.Author.Tests.{lt-leb, le-leb, ne-eqb}
 use denote.Ref.{now}
 use lib.ListN.{length, take, length-take}
-use Rattle.plain.specs.Setup.{over}
+use Rattle.line.specs.Beside.{sheetOver}
 use Rattle.line.specs.Part.{found, endOf, finishOf}
 use Rattle.line.proofs.Laws.{line-leaves}
 use Rattle.line.proofs.finish.Statement.{statement}
@@ -36,7 +36,7 @@ returns-3 c =
     let line = take (between .kept) (between .line) in
     let some = ne-eqb (length line) 0 (λ h. kept .if2 .left (omega (arith, length-take (between .kept) (between .line), long start))) in
     rw (le-leb 168 _ (kept .before .before .if1 .left), some)
-    (line-leaves (over (now (a .bank))) (record { between = between; end = 0 }) store out (found between store) out refl
+    (line-leaves (sheetOver (now (a .bank))) (record { between = between; end = 0 }) store out (found between store) out refl
     (c .before .before .before .before .take-line .ensures))
 
 pub finish-spec : {M : Type 1} → statement M

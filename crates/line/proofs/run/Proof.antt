@@ -8,7 +8,8 @@ use borrow.Author.Tests.{lt-leb, le-leb}
 use denote.Ref.{now}
 use lib.ListN.{length, take, getD}
 use lib.Seq.{take-all}
-use Rattle.plain.specs.Setup.{Setup, over}
+use Rattle.plain.specs.Setup.{Setup}
+use Rattle.line.specs.Beside.{sheetOver}
 use Rattle.line.specs.declared.Between.{Between}
 use Rattle.line.specs.declared.Ran.{Ran}
 use Rattle.line.specs.Part.{Sheet, partOf, After, after, found, leaving, runOf}
@@ -24,7 +25,7 @@ record Taken (setup : Setup) (store₀ input out₀ : List ℕ) (between : Betwe
   pub leaves : after ran store out ≡ leaving (partOf setup (found between store₀) (take i input)) out₀
 
 abbrev Inv-loop : tie.InvT-loop
-Inv-loop bank store₀ input out₀ ran₀ i₀ store out ran i = Taken (over bank) store₀ input out₀ (ran₀ .between) store out ran i
+Inv-loop bank store₀ input out₀ ran₀ i₀ store out ran i = Taken (sheetOver bank) store₀ input out₀ (ran₀ .between) store out ran i
 
 abbrev μ-loop : tie.MeasureT-loop
 μ-loop bank store₀ input out₀ ran₀ i₀ store out ran i = length input - i
@@ -39,12 +40,16 @@ loop-holds : tie.Need-loop-holds Inv-loop μ-loop
 unfolding partOf
 loop-holds c = record { within = omega arith; sized = refl; long = refl; room = omega arith; leaves = refl }
 
+-- the place is below the length of an input, which 64 bits hold
+add-i : tie.Need-add-i Inv-loop μ-loop
+add-i c = omega (arith, c .before .before .before .before .before .before .before .before .before .before .before .before .before .before .before .good .1 .1 .1 .0)
+
 loop-again : tie.Need-loop-again Inv-loop μ-loop
 loop-again c =
     let test = c .before .before .before .before .before .before .before .before in
     let l = test .before .loop in
     let a = test .before .before .before .before .before .before .before .args in
-    let setup = over (now (a .bank)) in
+    let setup = sheetOver (now (a .bank)) in
     let input = now (a .input) in
     let out₀ = now (a .out) in
     let taken = c .before .before .before .before .take in
@@ -70,7 +75,7 @@ returns-2 c =
     let begun = found (a .between) (now (a .store)) in
     let whole : take (l .i) input ≡ input = take-all (l .i) input (omega arith) in
     rw (le-leb (168 * length input) (length (now (a .out))) (omega arith))
-    (l .inv .leaves ∙ ap (λ (cs : List ℕ). leaving (partOf (over (now (a .bank))) begun cs) (now (a .out))) whole)
+    (l .inv .leaves ∙ ap (λ (cs : List ℕ). leaving (partOf (sheetOver (now (a .bank))) begun cs) (now (a .out))) whole)
 
 pub run-spec : {M : Type 1} → statement M
 run-spec =
@@ -82,7 +87,7 @@ run-spec =
     loop-holds
     (λ c. omega arith)
     (λ c κs. omega arith)
-    (λ c. omega arith)
+    add-i
     (λ c. omega arith)
     loop-again
     (λ c. omega arith)

@@ -9,7 +9,8 @@ use borrow.Author.Needs.{needs}
 use borrow.Author.Tests.{not-false}
 use denote.Ref.{now}
 use lib.ListN.{length}
-use Rattle.plain.specs.Setup.{Setup, over}
+use Rattle.plain.specs.Setup.{Setup}
+use Rattle.line.specs.Beside.{sheetOver}
 use Rattle.line.specs.declared.Between.{Between}
 use Rattle.line.specs.Part.{Sheet, found}
 use Rattle.terminal.specs.Input.{Turned}
@@ -25,7 +26,7 @@ record Turns (setup : Setup) (before : Sheet) (size : ℕ) (store out : List ℕ
 
 abbrev Inv-loop : tie.InvT-loop
 Inv-loop bank store₀ shows out₀ turn₀ turns₀ store out turn turns =
-    Turns (over bank) (found (turn₀ .between) store₀) (length store₀) store out (turn .between) (turn .«goes_on») (turn .«is_whole»)
+    Turns (sheetOver bank) (found (turn₀ .between) store₀) (length store₀) store out (turn .between) (turn .«goes_on») (turn .«is_whole»)
 
 abbrev μ-loop : tie.MeasureT-loop
 μ-loop bank store₀ shows out₀ turn₀ turns₀ store out turn turns = turns
@@ -37,7 +38,7 @@ loop-holds c =
       sized = refl;
       wide = sym (c .large-buffer .ensures);
       turned = record {
-        part = λ h. no-part (over (now (a .bank))) (a .between) (now (a .store));
+        part = λ h. no-part (sheetOver (now (a .bank))) (a .between) (now (a .store));
         whole = λ h. absurd (false≢true h);
       };
     }
@@ -46,7 +47,7 @@ loop-again : tie.Need-loop-again Inv-loop μ-loop
 loop-again c =
     let test = c .before .before .before .before .before .before .before in
     let so-far = test .before .before .before .loop .inv in
-    let setup = over (now (test .before .before .before .before .before .before .before .args .bank)) in
+    let setup = sheetOver (now (test .before .before .before .before .before .before .before .args .bank)) in
     let turn = c .before .before .before .take-turn in
     let part = so-far .turned .part (not-false _ (test .if1 .left)) in
     record {

@@ -7,7 +7,7 @@ use native.Mathlib.Omega.{arith}
 use borrow.Author.Needs.{needs}
 use denote.Ref.{now}
 use lib.ListN.{length, take, length-take}
-use Rattle.plain.specs.Setup.{over}
+use Rattle.line.specs.Beside.{sheetOver}
 use Rattle.line.specs.Part.{found}
 use Rattle.terminal.proofs.Laws.{ran-part, finished}
 use Rattle.terminal.proofs.take_turn.Statement.{statement}
@@ -27,7 +27,7 @@ returns-2 c =
     let a = start .args in
     let last = call .finish in
     let sheet = found (a .between) (now (a .store)) in
-    record { part = no; whole = λ h. finished (over (now (a .bank))) sheet (now (a .out)) (last .result) (omega (arith, start .pre)) (last .ensures) }
+    record { part = no; whole = λ h. finished (sheetOver (now (a .bank))) sheet (now (a .out)) (last .result) (omega (arith, start .pre)) (last .ensures) }
 
 returns-3 : tie.Need-returns-3
 returns-3 c =
@@ -41,7 +41,7 @@ returns-3 c =
     let cs = take (counted .count .result) (read .last .1 .0) in
     let short = length-take (counted .count .result) (read .last .1 .0) in
     let room : 168 * length cs ≤ length (now (a .out)) = omega (arith, short, read .kept .1 .0, start .pre) in
-    record { part = λ h. ran-part (over (now (a .bank))) sheet cs (now (a .out)) (ran .result) room (ran .ensures); whole = no }
+    record { part = λ h. ran-part (sheetOver (now (a .bank))) sheet cs (now (a .out)) (ran .result) room (ran .ensures); whole = no }
 
 pub take-turn-spec : {M : Type 1} → statement M
 take-turn-spec =

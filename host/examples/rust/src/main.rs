@@ -1,10 +1,13 @@
 //! An example host: document 01's example bank, cooked to its end through two
-//! outages. It checks what it gets back against document 01 and exits with a
-//! status other than 0 if anything differs.
+//! outages, with a horn on alarm 1. It checks what it gets back against
+//! documents 01 and 02 and exits with a status other than 0 if anything differs.
 
 use std::process::ExitCode;
 
-use cook::{Event, Outcome, Reading, State};
+use cook::{AlarmKind, AlarmSetting, Config, Event, Outcome, Reading, State};
+
+/// The alarm that the horn hangs on, from 0.
+const HORN: usize = 0;
 
 type Checked = Result<(), String>;
 
@@ -37,29 +40,59 @@ fn write_bank() -> Result<Vec<u8>, String> {
     Ok(bank)
 }
 
+/// The horn: 65.0 degrees or more for 4 seconds; it sounds until cleared.
+fn horn() -> Config {
+    let mut config = Config::default(); // no other alarm is set
+    config.alarms[HORN] = AlarmSetting {
+        kind: AlarmKind::MeasuredAtLeast,
+        high: 650,
+        delay: 3,
+        hold: true,
+        ..AlarmSetting::default()
+    };
+    config
+}
+
 struct Host {
     bank: Vec<u8>,
+    config: [u8; cook::CONFIG_LEN],
     /// Retained memory: outlives a cut.
     record: [u8; cook::RECORD_LEN],
     state: [u8; cook::STATE_LEN],
+    /// Whether the horn sounds.
+    horn: bool,
 }
 
 impl Host {
     fn new() -> Result<Host, String> {
-        let bank = write_bank()?;
+        let (bank, config) = (write_bank()?, horn().to_bytes());
         let (mut record, mut state) = ([0; cook::RECORD_LEN], [0; cook::STATE_LEN]);
-        let outcome = cook::make(&bank, &mut record, &mut state);
+        let outcome = cook::make(&bank, &config, &mut record, &mut state);
         expect("making's number", outcome.number(), 0)?;
         expect("the record", &record[..], &state[1..1 + cook::RECORD_LEN])?;
         Ok(Host {
             bank,
+            config,
             record,
             state,
+            horn: false,
         })
     }
 
     fn give(&mut self, event: Event) -> Outcome {
-        cook::event(&self.bank, &mut self.record, &mut self.state, event)
+        let (record, state) = (&mut self.record, &mut self.state);
+        cook::event(&self.bank, &self.config, record, state, event)
+    }
+
+    /// Turns the horn on or off as its alarm says, and prints a line if it does.
+    fn sound(&mut self) -> Checked {
+        let on = self.view()?.alarms[HORN].is_on();
+        if on != self.horn {
+            let goes = if on { "on" } else { "off" };
+            println!("{:<20} the horn goes {goes}", "");
+        }
+        self.horn = on;
+        Ok(())
     }
 
     fn view(&self) -> Result<State, String> {
@@ -79,6 +112,7 @@ impl Host {
             state.e,
             outcome.set_value()
         );
+        self.sound()?;
         let got = (outcome.number(), outcome.set_value(), state.k, state.e);
         expect(
             &format!("(answer, set value, step, elapsed) after {name}"),
@@ -90,6 +124,7 @@ impl Host {
     fn ticks(&mut self, count: usize, reading: i32) -> Checked {
         for _ in 0..count {
             expect("a tick's answer", self.give(tick(reading)).number(), 0)?;
+            self.sound()?;
         }
         Ok(())
     }
@@ -107,9 +142,48 @@ impl Host {
         self.show(Event::Cut, (0, 0, 0, 0))?;
         self.show(tick(600), (23, 0, 0, 0))?;
         self.show(Event::Return(Reading::Value(600)), (0, 600, 2, 0))?;
-        self.ticks(59, 600)?;
+        self.ticks(20, 600)?;
+        self.too_hot()?;
+        self.ticks(35, 600)?;
         self.show(tick(600), (0, 0, 2, 0))?;
-        expect("the mode", self.view()?.mode, 3)
+        expect("the mode", self.view()?.mode, 3)?;
+        expect("the horn after the cook", self.horn, true)?;
+        self.show(Event::Reset, (0, 0, 1, 0))?;
+        expect("the horn after the reset", self.horn, false)
+    }
+
+    /// Four seconds of 66.0 degrees: the first three are counted.
+    fn too_hot(&mut self) -> Checked {
+        for second in 1..=3 {
+            self.ticks(1, 660)?;
+            self.expect_horn(false, second)?;
+        }
+        self.show(tick(660), (0, 600, 2, 24))?;
+        self.expect_horn(true, 0)
+    }
+
+    fn expect_horn(&self, sounds: bool, count: u16) -> Checked {
+        let got = (self.horn, self.view()?.alarms[HORN].count);
+        expect("the horn and its count", got, (sounds, count))
+    }
+
+    /// A bound above 2,999.9 degrees and a short config are refused, and nothing changes.
+    fn wrong_configs(&self) -> Checked {
+        let mut wrong = horn();
+        wrong.alarms[HORN].high = 30_000;
+        let wrong = wrong.to_bytes();
+        let (mut record, mut state) = (self.record, self.state);
+        let outcome = cook::make(&self.bank, &wrong, &mut record, &mut state);
+        expect("the answer to a wrong setting", outcome.number(), 41)?;
+        let outcome = cook::event(&self.bank, &wrong, &mut record, &mut state, Event::Start);
+        expect("an event's answer to it", outcome.number(), 41)?;
+        let short = &self.config[..cook::CONFIG_LEN - 1];
+        let outcome = cook::make(&self.bank, short, &mut record, &mut state);
+        expect("the answer to a short config", outcome.number(), 99)?;
+        expect("the record", record, self.record)?;
+        expect("the state", state, self.state)?;
+        println!("a wrong setting is answered 41, a short config 99");
+        Ok(())
     }
 
     fn print_credits(&self) -> Checked {
@@ -129,6 +203,7 @@ fn tick(reading: i32) -> Event {
 
 fn cook_it() -> Checked {
     let mut host = Host::new()?;
+    host.wrong_configs()?;
     host.cook()?;
     host.print_credits()
 }

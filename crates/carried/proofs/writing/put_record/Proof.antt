@@ -28,7 +28,7 @@ returns c =
     let a = start .args in
     let bytes = now (a .bytes) in
     let many : length (a .credits) ≡ 99 = search needs in
-    let checkpoint : Checkpoint = record { position = a .position; credits = a .credits } in
+    let checkpoint : Checkpoint = record { position = a .position; credits = a .credits; alarms = a .alarms } in
     let size : length (take recordSize (drop 1 bytes)) ≡ recordSize = length-take recordSize (drop 1 bytes) ∙ omega (arith, length-drop 1 bytes, start .pre) in
     let wrote : _ ≡ recordOf checkpoint = rw (eq-eqb _ recordSize size) at (write .ensures) in
     ap (putMid 1 recordSize bytes) wrote ∙ part-put (recordOf checkpoint) bytes (start .pre) (length-record checkpoint many)

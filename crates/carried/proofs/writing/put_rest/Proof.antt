@@ -40,10 +40,10 @@ returns c =
     let a = start .args in
     let bytes = now (a .bytes) in
     let run = a .run in
-    let first = set (set bytes restFrom (run .unsaved)) 413 (kindOf (run .measured)) in
+    let first = set (set bytes restFrom (run .unsaved)) 425 (kindOf (run .measured)) in
     let long : length first ≡ length bytes = simp (length-set, length-set) in
     put .ensures
-    ∙ rw (kind-of .ensures, bits-of .ensures) (stored-fits 8 first 414 (bitsOf (run .measured)) (omega (arith, long, start .pre)))
+    ∙ rw (kind-of .ensures, bits-of .ensures) (stored-fits 8 first 426 (bitsOf (run .measured)) (omega (arith, long, start .pre)))
     ∙ ap (sets bytes restFrom) (rest-row run (search needs))
 
 pub put-rest-spec : {M : Type 1} → statement M

@@ -16,7 +16,7 @@ use Rattle.controller.proofs.State.cut.Tie as tie
 no-save : (c : tie.After-event) → c .event .result .saves ≡ false
 no-save c =
     let start = c .before .before .before .before .before in
-    ap (λ (x : Effect). x .saves) (c .event .ensures) ∙ cut-saves (over (now (start .args .bank))) (now (start .args .store)) (start .args .self .run) (start .args .self .power)
+    ap (λ (x : Effect). x .saves) (c .event .ensures) ∙ cut-saves (over (now (start .args .bank)) (start .args .config)) (now (start .args .store)) (start .args .self .run) (start .args .self .power)
 
 event-requires : tie.Need-event-requires
 event-requires c κs = search needs
@@ -33,7 +33,7 @@ returns c =
     let at-event = c .before .before .before .before in
     let effect = at-event .event in
     let start = at-event .before .before .before .before .before in
-    not-saved (over (now (start .args .bank))) (now (start .args .store)) (start .args .self) Event.Cut (effect .result) (effect .ensures) _
+    not-saved (over (now (start .args .bank)) (start .args .config)) (now (start .args .store)) (start .args .self) Event.Cut (effect .result) (effect .ensures) _
     (record { power = refl; run = refl; credits = rw (c .before .enum-told .given .1) refl })
     (no-save at-event)
 
@@ -45,8 +45,8 @@ returns-2 c =
     let at-event = c .before .before in
     let effect = at-event .event in
     let start = at-event .before .before .before .before .before in
-    let asked = asks (over (now (start .args .bank))) (now (start .args .store)) (start .args .self .run) (start .args .self .power) Event.Cut in
-    not-saved (over (now (start .args .bank))) (now (start .args .store)) (start .args .self) Event.Cut (effect .result) (effect .ensures) _
+    let asked = asks (over (now (start .args .bank)) (start .args .config)) (now (start .args .store)) (start .args .self .run) (start .args .self .power) Event.Cut in
+    not-saved (over (now (start .args .bank)) (start .args .config)) (now (start .args .store)) (start .args .self) Event.Cut (effect .result) (effect .ensures) _
     (record { power = refl; run = refl; credits = sym (not-cut _ _ (effect .result .credit) (c .match .keys2) (rw (effect .ensures) asked)) })
     (no-save at-event)
 

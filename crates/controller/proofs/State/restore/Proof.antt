@@ -18,7 +18,7 @@ unfolding credited
 settled c =
     let start = c .before .before .before .before .before .before .before in
     let effect = c .before .before .event in
-    let asked = asks (over (now (start .args .bank))) (now (start .args .store)) (start .args .self .run) (start .args .self .power) (Event.Return (start .args .reading)) in
+    let asked = asks (over (now (start .args .bank)) (start .args .config)) (now (start .args .store)) (start .args .self .run) (start .args .self .power) (Event.Return (start .args .reading)) in
     let leaves = Settled (now (start .args .store)) (start .args .self) (effect .result) in
     ⊎-elim
     (λ way. subst leaves (sym (way .4))
@@ -44,10 +44,10 @@ same-length c = search needs
 
 returns : tie.Need-returns
 returns c =
-    let at-if = c .before .before .before .before .before .before in
+    let at-if = c .before .before .before .before .before .before .before in
     let effect = at-if .before .before .before .event in
     let start = at-if .before .before .before .before .before .before .before .before in
-    saved (over (now (start .args .bank))) (now (start .args .store)) (start .args .self) (Event.Return (start .args .reading))
+    saved (over (now (start .args .bank)) (start .args .config)) (now (start .args .store)) (start .args .self) (Event.Return (start .args .reading))
     (effect .result) (effect .ensures) (at-if .before .match .self) (settled (at-if .before)) _ (at-if .if1 .taken) (c .before .before .write .ensures)
 
 same-length-2 : tie.Need-same-length-2
@@ -57,7 +57,7 @@ returns-2 : tie.Need-returns-2
 returns-2 c =
     let effect = c .before .before .before .event in
     let start = c .before .before .before .before .before .before .before .before in
-    not-saved (over (now (start .args .bank))) (now (start .args .store)) (start .args .self) (Event.Return (start .args .reading))
+    not-saved (over (now (start .args .bank)) (start .args .config)) (now (start .args .store)) (start .args .self) (Event.Return (start .args .reading))
     (effect .result) (effect .ensures) (c .before .match .self) (settled (c .before)) (c .if1 .left)
 
 pub restore-spec : {M : Type 1} → statement M

@@ -1,21 +1,50 @@
--- `effect::answers::effect_of` meets its contract. Assumes nothing.
+-- `effect::answers::effect_of` meets its contract.
+-- Assumes nothing.
+use mathlib.Core.Path.{_≡_, sym, _∙_}
+use mathlib.Core.Logic.{⊎-elim}
+use denote.Ref.{now}
+use Rattle.plain.specs.Setup.{hereIn}
+use Rattle.effect.specs.Done.{alarmsIf}
+use Rattle.effect.proofs.Laws.{kept-alarms, moved-alarms}
 use borrow.Author.Needs.{needs}
 use Rattle.effect.proofs.answers.effect_of.Statement.{statement}
 use Rattle.effect.proofs.answers.effect_of.Tie as tie
 
-here-after-requires : tie.Need-here-after-requires
-here-after-requires c κs = search needs
+-- the alarms that are left, kept or moved
+alarms-are : (c : tie.Joined1) →
+    let start = c .before .before .before .before .before .before .before .before .before .before .args in
+    let here-after = c .before .before .before .before .here-after in
+    let left = start .done .progress in
+    c .if1 .alarms ≡ alarmsIf (start .done .accepted) (start .config) (here-after .result) (now (start .store)) (start .event) (start .run .alarms) (left .position) (left .measured)
+alarms-are c =
+    let start = c .before .before .before .before .before .before .before .before .before .before .args in
+    let accepted = start .done .accepted in
+    let keeps = c .before .keeps in
+    let idle = c .before .before .before .idle in
+    ⊎-elim (λ x. x .1 ∙ kept-alarms accepted (idle .result) _ _ _ (start .event) _ _ _ (idle .ensures) (sym (keeps .ensures) ∙ x .0 .taken))
+    (λ x. x .2 ∙ x .1 .ensures ∙ moved-alarms accepted (idle .result) _ _ _ (start .event) _ _ _ (sym (keeps .ensures) ∙ x .0 .left)) (c .if1 .came)
 
-answered-requires : tie.Need-answered-requires
-answered-requires c κs = search needs
+here-after-requires : tie.Need-here-after-requires
+here-after-requires c κs = c .before .before .before .before .before .pre .here-is
 
 returns : tie.Need-returns
-returns c = rw (c .answered .ensures, c .before .here-after .ensures, c .before .before .before .before .before .pre .settings-are)
+unfolding hereIn
+returns c =
+    let here-after = c .before .before .before .before .before .before .before .here-after in
+    let with-alarms = c .before .before .with-alarms in
+    let back3 = c .before .before .before in
+    let pre = c .before .before .before .before .before .before .before .before .before .before .before .before .before .pre in
+    rw (c .answered .ensures, c .before .credit-after .ensures, with-alarms .ensures, alarms-are (back3), here-after .ensures, pre .settings-are)
 
 pub effect-of-spec : {M : Type 1} → statement M
 effect-of-spec =
     tie.close
     (tie.spec
     here-after-requires
-    answered-requires
+    (λ c κs. search needs)
+    (λ c κs. search needs)
+    (λ c κs. search needs)
+    (λ c κs. search needs)
+    (λ c κs. search needs)
+    (λ c κs. search needs)
     returns)

@@ -1,7 +1,6 @@
 -- `effect::answers::here_after` meets its contract. Assumes nothing.
 use mathlib.Core.Path.{_∙_}
 use denote.Ref.{now}
-use Rattle.plain.specs.Setup.{over, hereIn}
 use Rattle.effect.proofs.Laws.{same-place}
 use borrow.Author.Needs.{needs}
 use Rattle.effect.proofs.answers.here_after.Statement.{statement}
@@ -11,21 +10,19 @@ here-at-requires : tie.Need-here-at-requires
 here-at-requires c κs = search needs
 
 returns : tie.Need-returns
-unfolding hereIn
-returns c = rw (← c .before .before .before .before .before .pre .settings-are) (c .here-at .ensures)
+returns c = c .here-at .ensures
 
 here-at-requires-2 : tie.Need-here-at-requires-2
 here-at-requires-2 c κs = search needs
 
 returns-2 : tie.Need-returns-2
-unfolding hereIn
-returns-2 c = rw (← c .before .before .before .before .before .before .before .before .pre .settings-are) (c .here-at2 .ensures)
+returns-2 c = c .here-at2 .ensures
 
 returns-3 : tie.Need-returns-3
 returns-3 c =
     let start = c .before .before .before .before .before .before .before in
-    start .pre .here-is
-    ∙ same-place (over (now (start .args .bank))) (start .args .before) (start .args .position) (c .before .before .before .if1 .left) (c .if2 .left)
+    start .pre
+    ∙ same-place (now (start .args .bank)) (start .args .settings) (start .args .before) (start .args .position) (c .before .before .before .if1 .left) (c .if2 .left)
 
 pub here-after-spec : {M : Type 1} → statement M
 here-after-spec =

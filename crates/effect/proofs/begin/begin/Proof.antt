@@ -25,11 +25,10 @@ same-length c = search needs
 
 returns : tie.Need-returns
 unfolding makeOutcome retainedIn fresh hereIn
-returns c =
-    let saved = c .before .before .before .before .before in
+returns c = λ config alarms.
     let start = c .before .before .before .before .before .before .before .before .before .before .before in
-    rw (start .pre .ok, start .pre .whole, c .shown .ensures, c .before .here-at .ensures, c .before .before .read-settings .ensures)
-    (rw (saved .save .ensures, saved .before .before .before .fresh-run .ensures))
+    rw (start .pre .ok, start .pre .whole, alarms, c .shown .ensures, c .before .here-at .ensures, c .before .before .read-settings .ensures)
+    (rw (c .before .before .before .before .before .save .ensures, c .before .before .before .before .before .before .before .before .fresh-run .ensures))
 
 pub begin-spec : {M : Type 1} → statement M
 begin-spec =

@@ -1,10 +1,13 @@
 -- `effect::begin::fresh_run` meets its contract. Assumes nothing.
-use mathlib.Core.Path.{refl}
+use borrow.Author.Needs.{needs}
 use Rattle.effect.proofs.begin.fresh_run.Statement.{statement}
 use Rattle.effect.proofs.begin.fresh_run.Tie as tie
 
+cleared-requires : tie.Need-cleared-requires
+cleared-requires c κs = search needs
+
 returns : tie.Need-returns
-returns c = refl
+returns c = rw (c .cleared .ensures)
 
 pub fresh-run-spec : {M : Type 1} → statement M
-fresh-run-spec = tie.close (tie.spec returns)
+fresh-run-spec = tie.close (tie.spec cleared-requires returns)

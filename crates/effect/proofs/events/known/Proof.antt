@@ -1,21 +1,21 @@
 -- `effect::events::known` meets its contract. Assumes nothing.
-use mathlib.Core.Path.{sym, _∙_}
+use mathlib.Core.Path.{subst}
 use denote.Ref.{now}
-use Rattle.plain.specs.Replay.{tick, press}
-use Rattle.plain.proofs.Standing.{known-plain}
-use Rattle.plain.specs.Setup.{over}
-use Rattle.effect.proofs.Laws.{few}
+use Rattle.plain.specs.declared.Event.{Event}
+use Rattle.effect.specs.declared.Progress.{Progress}
+use Rattle.effect.specs.Done.{Does, DoesCut, DoesReturn}
 use borrow.Author.Needs.{needs}
 use Rattle.effect.proofs.events.known.Statement.{statement}
 use Rattle.effect.proofs.events.known.Tie as tie
+
+by-parts-requires : tie.Need-by-parts-requires
+by-parts-requires c κs = search needs
 
 enum-known-event : tie.Need-enum-known-event
 enum-known-event c = search needs
 
 tick-requires : tie.Need-tick-requires
-tick-requires c κs =
-    let a = c .before .before .before .before .before .args in
-    λ on. few (over (now (a .bank))) (a .power) (a .run) on (c .before .before .before .before .before .pre .sound .sound)
+tick-requires c κs = λ on. rw (c .before .before .before .by-parts .ensures) (c .before .before .before .before .before .before .pre on)
 
 enum-known-event-2 : tie.Need-enum-known-event-2
 enum-known-event-2 c = search needs
@@ -33,39 +33,43 @@ enum-known-event-3 : tie.Need-enum-known-event-3
 enum-known-event-3 c = search needs
 
 restore-requires : tie.Need-restore-requires
-restore-requires c κs =
-    let ready = c .before .before .before .before .before .pre in
-    record { settings-are = ready .sound .known .settings-are; sound = ready .sound .sound; whole = ready .whole }
+restore-requires c κs = search needs
 
 returns : tie.Need-returns
 returns c =
-    let start = c .before .before .before .before .before .before in
-    let a = start .args in
-    let setup = over (now (a .bank)) in
-    rw (c .before .before .event .given .1)
-    (c .tick .ensures setup (start .pre .sound) ∙ sym (known-plain setup (now (a .store)) (a .power) (a .run) (tick _) (start .pre .whole)))
+    let a = c .before .before .before .before .before .before .before .args in
+    let does = subst (λ (progress : Progress). Does (a .settings) (a .here) (a .power) progress (Event.Tick (c .before .before .event .given .0 .0)) (c .tick .result))
+    (c .before .before .before .before .by-parts .ensures) (c .tick .ensures) in
+    rw (c .before .before .event .given .1) (λ config alarms ready bounded. does _ _ alarms ready)
 
 returns-2 : tie.Need-returns-2
 returns-2 c =
-    let start = c .before .before .before .before .before .before in
-    let a = start .args in
-    let setup = over (now (a .bank)) in
-    rw (c .before .before .event2 .given .1)
-    (c .press .ensures setup (start .pre .sound) ∙ sym (known-plain setup (now (a .store)) (a .power) (a .run) (press _) (start .pre .whole)))
+    let a = c .before .before .before .before .before .before .before .args in
+    let does = subst (λ (progress : Progress). Does (a .settings) (a .here) (a .power) progress (Event.Press (c .before .before .event2 .given .0 .0)) (c .press .result))
+    (c .before .before .before .before .by-parts .ensures) (c .press .ensures) in
+    rw (c .before .before .event2 .given .1) (λ config alarms ready bounded. does _ _ alarms ready)
 
 returns-3 : tie.Need-returns-3
 returns-3 c =
-    let start = c .before .before .before .before .before in
-    rw (c .before .enum-told .given .1)
-    (c .cut .ensures (over (now (start .args .bank))) (now (start .args .store)) (start .pre .sound .sound) (start .pre .whole))
+    let args = c .before .before .before .before .before .before .args in
+    let by-parts = c .before .before .before .by-parts in
+    let does = subst (λ (progress : Progress). DoesCut (args .power) progress (c .cut .result)) (by-parts .ensures) (c .cut .ensures) in
+    rw (c .before .enum-told .given .1) (λ config alarms ready bounded. does _ _ _ _ alarms ready)
 
 returns-4 : tie.Need-returns-4
-returns-4 c = rw (c .before .before .event3 .given .1) (c .restore .ensures)
+returns-4 c =
+    let a = c .before .before .before .before .before .before .before .args in
+    let event3 = c .before .before .event3 in
+    let by-parts = c .before .before .before .before .by-parts in
+    let does = subst (λ (progress : Progress). DoesReturn (now (a .bank)) (now (a .store)) (a .settings) (a .power) progress (a .bounded) (Event.Return (event3 .given .0 .0)) (c .restore .result))
+    (by-parts .ensures) (c .restore .ensures) in
+    rw (event3 .given .1) (does (a .here))
 
 pub known-spec : {M : Type 1} → statement M
 known-spec =
     tie.close
     (tie.spec
+    by-parts-requires
     enum-known-event
     tick-requires
     enum-known-event-2

@@ -1,10 +1,13 @@
 -- `effect::press::press` meets its contract. Assumes nothing.
 use mathlib.Core.Path.{_≡_, ap, sym, _∙_}
 use Rattle.measure.specs.Filter.{wholeOf}
+use Rattle.plain.specs.declared.Event.{Event}
 use Rattle.plain.specs.Refusals.{commandMove}
 use Rattle.plain.specs.Setup.{settingsIn, hereIn}
 use Rattle.plain.specs.Replay.{press}
-use Rattle.effect.specs.Done.{effectOf}
+use Rattle.plain.proofs.Standing.{known-plain}
+use Rattle.effect.specs.Done.{withAlarms, effectOf}
+use Rattle.effect.proofs.Laws.{said-in}
 use Rattle.effect.proofs.Rows.{onMove, plain-off, press-on}
 use borrow.Author.Needs.{needs}
 use Rattle.effect.proofs.press.press.Statement.{statement}
@@ -14,10 +17,12 @@ refused-requires : tie.Need-refused-requires
 refused-requires c κs = search needs
 
 returns : tie.Need-returns
-returns c = λ setup ready.
+returns c = λ setup store alarms ready.
     let a = c .before .before .args in
-    ap (effectOf setup) (c .refused .ensures)
-    ∙ sym (plain-off setup (a .power) (a .run) (ready .sound) (c .before .if1 .taken) (press (a .pressed)))
+    let run = withAlarms (a .progress) alarms in
+    ap (effectOf setup store run (Event.Press (a .pressed))) (c .refused .ensures)
+    ∙ sym (plain-off setup (a .power) run (ready .sound .sound) (ready .sound .alarms) (c .before .if1 .taken) (press (a .pressed)))
+    ∙ sym (known-plain setup store (a .power) run (press (a .pressed)) (ready .whole))
 
 whole-value-requires : tie.Need-whole-value-requires
 whole-value-requires c κs = search needs
@@ -27,9 +32,6 @@ command-requires c κs = search needs
 
 enum-known-made : tie.Need-enum-known-made
 enum-known-made c = search needs
-
-credit-of-requires : tie.Need-credit-of-requires
-credit-of-requires c κs = search needs
 
 accepted-requires : tie.Need-accepted-requires
 accepted-requires c κs = search needs
@@ -41,27 +43,30 @@ refused-requires-2 : tie.Need-refused-requires-2
 refused-requires-2 c κs = search needs
 
 returns-2 : tie.Need-returns-2
-returns-2 c = λ setup ready.
-    let a = c .before .before .before .before .before .before .before .before .before .args in
-    let moved : c .before .before .before .before .before .command .result
-    ≡ commandMove (settingsIn setup) (hereIn setup (a .run .position)) (wholeOf (a .run .measured)) (a .run .position) (a .pressed) =
-    c .before .before .before .before .before .command .ensures
-    ∙ rw (c .before .before .before .before .before .before .whole-value .ensures .0, ready .known .settings-are, ready .known .here-is) in
-    ap (effectOf setup) (c .accepted .ensures)
-    ∙ rw (c .before .credit-of .ensures)
-    (ap (onMove setup (a .power) (a .run) (a .pressed)) (sym (c .before .before .before .made .given .1) ∙ moved)
-    ∙ sym (press-on setup (a .power) (a .run) (ready .sound) (c .before .before .before .before .before .before .before .before .if1 .left) (a .pressed)))
+returns-2 c = λ setup store alarms ready.
+    let a = c .before .before .before .before .before .before .before .before .args in
+    let run = withAlarms (a .progress) alarms in
+    let known = ready .sound .known in
+    let moved : c .before .before .before .before .command .result
+    ≡ commandMove (settingsIn setup) (hereIn setup (a .progress .position)) (wholeOf (a .progress .measured)) (a .progress .position) (a .pressed) =
+    c .before .before .before .before .command .ensures ∙ rw (c .before .before .before .before .before .whole-value .ensures .0, known .settings-are, said-in setup (a .progress .position) known) in
+    ap (effectOf setup store run (Event.Press (a .pressed))) (c .accepted .ensures)
+    ∙ ap (onMove setup (a .power) run (a .pressed)) (sym (c .before .before .made .given .1) ∙ moved)
+    ∙ sym (press-on setup (a .power) run (ready .sound .sound) (ready .sound .alarms) (c .before .before .before .before .before .before .before .if1 .left) (a .pressed))
+    ∙ sym (known-plain setup store (a .power) run (press (a .pressed)) (ready .whole))
 
 returns-3 : tie.Need-returns-3
-returns-3 c = λ setup ready.
+returns-3 c = λ setup store alarms ready.
     let a = c .before .before .before .before .before .before .before .before .args in
+    let run = withAlarms (a .progress) alarms in
+    let known = ready .sound .known in
     let moved : c .before .before .before .before .command .result
-    ≡ commandMove (settingsIn setup) (hereIn setup (a .run .position)) (wholeOf (a .run .measured)) (a .run .position) (a .pressed) =
-    c .before .before .before .before .command .ensures
-    ∙ rw (c .before .before .before .before .before .whole-value .ensures .0, ready .known .settings-are, ready .known .here-is) in
-    ap (effectOf setup) (c .refused2 .ensures)
-    ∙ ap (onMove setup (a .power) (a .run) (a .pressed)) (sym (c .before .before .made2 .given .1) ∙ moved)
-    ∙ sym (press-on setup (a .power) (a .run) (ready .sound) (c .before .before .before .before .before .before .before .if1 .left) (a .pressed))
+    ≡ commandMove (settingsIn setup) (hereIn setup (a .progress .position)) (wholeOf (a .progress .measured)) (a .progress .position) (a .pressed) =
+    c .before .before .before .before .command .ensures ∙ rw (c .before .before .before .before .before .whole-value .ensures .0, known .settings-are, said-in setup (a .progress .position) known) in
+    ap (effectOf setup store run (Event.Press (a .pressed))) (c .refused2 .ensures)
+    ∙ ap (onMove setup (a .power) run (a .pressed)) (sym (c .before .before .made2 .given .1) ∙ moved)
+    ∙ sym (press-on setup (a .power) run (ready .sound .sound) (ready .sound .alarms) (c .before .before .before .before .before .before .before .if1 .left) (a .pressed))
+    ∙ sym (known-plain setup store (a .power) run (press (a .pressed)) (ready .whole))
 
 pub press-spec : {M : Type 1} → statement M
 press-spec =
@@ -72,7 +77,6 @@ press-spec =
     whole-value-requires
     command-requires
     enum-known-made
-    credit-of-requires
     accepted-requires
     enum-known-made-2
     refused-requires-2

@@ -15,7 +15,13 @@ returned-requires c κs = search needs
 
 returns : tie.Need-returns
 unfolding returnBy
-returns c = rw (c .returned .ensures, c .before .whole-value .ensures .0, c .before .before .before .first .ensures)
+returns c = λ alarms. rw (c .returned .ensures, c .before .whole-value .ensures .0, c .before .before .before .first .ensures)
 
 pub returned-spec : {M : Type 1} → statement M
-returned-spec = tie.close (tie.spec first-requires whole-value-requires returned-requires returns)
+returned-spec =
+    tie.close
+    (tie.spec
+    first-requires
+    whole-value-requires
+    returned-requires
+    returns)

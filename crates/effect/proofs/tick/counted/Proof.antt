@@ -5,12 +5,16 @@ use borrow.Author.Needs.{needs}
 use Rattle.effect.proofs.tick.counted.Statement.{statement}
 use Rattle.effect.proofs.tick.counted.Tie as tie
 
-add-run : tie.Need-add-run
-add-run c = search needs
+add-progress : tie.Need-add-progress
+add-progress c = search needs
 
 returns : tie.Need-returns
 unfolding counting
-returns c = refl
+returns c = λ alarms. refl
 
 pub counted-spec : {M : Type 1} → statement M
-counted-spec = tie.close (tie.spec add-run returns)
+counted-spec =
+    tie.close
+    (tie.spec
+    add-progress
+    returns)

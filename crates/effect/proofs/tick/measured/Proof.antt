@@ -9,7 +9,11 @@ after-requires c κs = search needs
 
 returns : tie.Need-returns
 unfolding measuring
-returns c = rw (c .after .ensures)
+returns c = λ alarms. rw (c .after .ensures)
 
 pub measured-spec : {M : Type 1} → statement M
-measured-spec = tie.close (tie.spec after-requires returns)
+measured-spec =
+    tie.close
+    (tie.spec
+    after-requires
+    returns)

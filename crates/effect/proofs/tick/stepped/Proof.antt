@@ -12,7 +12,12 @@ tick-requires c κs = search needs
 
 returns : tie.Need-returns
 unfolding stepping
-returns c = rw (c .tick .ensures, c .before .whole-value .ensures .0)
+returns c = λ alarms. rw (c .tick .ensures, c .before .whole-value .ensures .0)
 
 pub stepped-spec : {M : Type 1} → statement M
-stepped-spec = tie.close (tie.spec whole-value-requires tick-requires returns)
+stepped-spec =
+    tie.close
+    (tie.spec
+    whole-value-requires
+    tick-requires
+    returns)

@@ -2,8 +2,8 @@
 -- Assumes nothing.
 use borrow.Author.Needs.{needs}
 use denote.Ref.{now}
-use Rattle.plain.specs.Setup.{over}
 use Rattle.controller.specs.Holds.{stateOf, after}
+use Rattle.line.specs.Beside.{sheetOver}
 use Rattle.line.specs.Text.{askedFor}
 use Rattle.line.proofs.Laws.{event-answered}
 use Rattle.line.proofs.lines.respond.Statement.{statement}
@@ -20,7 +20,7 @@ returns-2 c =
     let left = after (event .result .state) (event .last .1 .0) (event .result .answer) in
     let wanted = c .before .before .before .before .before .before .before .asked .given in
     rw (wanted .1)
-    (event-answered (over (now (a .bank))) (now (a .store)) (stateOf (a .state)) (wanted .0 .0) left (event .ensures) (c .number .ensures))
+    (event-answered (sheetOver (now (a .bank))) (now (a .store)) (stateOf (a .state)) (wanted .0 .0) left (event .ensures) (c .number .ensures))
 
 pub respond-spec : {M : Type 1} → statement M
 respond-spec =

@@ -7,9 +7,9 @@ use denote.Ref.{now}
 use lib.IntN.{pos}
 use lib.ListN.{length}
 use lib.Seq.{length-take-le}
-use Rattle.plain.specs.Setup.{over}
 use Rattle.controller.specs.Holds.{stateOf}
 use Rattle.key.specs.Line.{askedBy}
+use Rattle.line.specs.Beside.{sheetOver}
 use Rattle.line.specs.Text.{said}
 use Rattle.line.specs.Part.{found}
 use Rattle.line.proofs.Laws.{kept-line, line-taken}
@@ -31,7 +31,7 @@ returns c =
     let start = c .before .before .before .before .before .before .before .before .before .before .before .before .before .before .before .before .before .before .before in
     let a = start .args in
     let between = a .ran .between in
-    let setup = over (now (a .bank)) in
+    let setup = sheetOver (now (a .bank)) in
     let answer = c .before .before .before .before .before .before .before .before in
     let left = answer .respond in
     let state = stateOf (left .result .state) in

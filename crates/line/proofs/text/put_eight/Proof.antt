@@ -11,7 +11,8 @@ use mir.Syntax.{w16, w64}
 use mir.Val.{SFits, ofZ, toZ}
 use Rattle.position.specs.declared.Here.{Here}
 use Rattle.position.specs.Program.{setValueOf}
-use Rattle.plain.specs.Setup.{over, hereIn}
+use Rattle.plain.specs.Setup.{hereIn}
+use Rattle.line.specs.Beside.{sheetOver}
 use Rattle.line.specs.Text.{eight}
 use Rattle.line.proofs.Laws.{line-put, small, here-is}
 use Rattle.line.proofs.text.put_eight.Statement.{statement}
@@ -37,10 +38,10 @@ returns c =
     let x = a .run .position in
     let value = numbers .set-value in
     let fits : SFits w16 (value .result) = record { sfits = value .ok } in
-    let here = here-is (over bank) x (place .before .read-settings .ensures) (place .here-at .ensures) in
-    let is : toZ w64 (ofZ w64 (toZ w16 (ofZ w16 (value .result)))) ≡ setValueOf (hereIn (over bank) x) x =
+    let here = here-is (sheetOver bank) x (place .before .read-settings .ensures) (place .here-at .ensures) in
+    let is : toZ w64 (ofZ w64 (toZ w16 (ofZ w16 (value .result)))) ≡ setValueOf (hereIn (sheetOver bank) x) x =
     toZ-ofZ (wide (value .result) fits) ∙ toZ-ofZ fits ∙ value .ensures ∙ ap (λ (said : Here). setValueOf said x) here in
-    line-put (now (a .out)) (a .at) (eight (over bank) (pos (a .number)) (a .run)) (omega arith)
+    line-put (now (a .out)) (a .at) (eight (sheetOver bank) (pos (a .number)) (a .run)) (omega arith)
     (λ i. small (a .number) (omega (arith, start .fits .number)) i ∷ small (x .mode) (omega arith) i ∷ small (x .pattern) (omega arith) i ∷ small (x .step) (omega arith) i
     ∷ small (x .pass) (omega arith) i ∷ small (x .elapsed) (omega (arith, elapsed)) i ∷ small (x .waited) (omega (arith, waited)) i ∷ is i ∷ [])
     (c .before .before .put-line .ensures)

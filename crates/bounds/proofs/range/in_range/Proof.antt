@@ -1,0 +1,15 @@
+-- `bounds::range::in_range` meets its contract. Assumes nothing.
+use Rattle.alarm.specs.Alarm.{allInRange}
+use Rattle.alarm.proofs.Coded.{joined, last}
+use borrow.Author.Needs.{needs}
+use Rattle.bounds.proofs.range.in_range.Statement.{statement}
+use Rattle.bounds.proofs.range.in_range.Tie as tie
+
+returns : tie.Need-returns
+unfolding allInRange
+returns c =
+    joined _ (c .before .before .before .is-in-range .ensures)
+    (joined _ (c .before .before .is-in-range2 .ensures) (joined _ (c .before .is-in-range3 .ensures) (last (c .is-in-range4 .ensures))))
+
+pub in-range-spec : {M : Type 1} → statement M
+in-range-spec = tie.close (tie.spec (λ c κs. search needs) (λ c κs. search needs) (λ c κs. search needs) (λ c κs. search needs) returns)

@@ -1,0 +1,2 @@
+-- The law that the copy cites.
+pub mod Turn
