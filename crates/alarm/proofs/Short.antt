@@ -1,4 +1,4 @@
--- The short ways: cleared alarms are within their bounds, and no tick moves idle ones.
+-- The short ways: settings that are all 0 are in range, cleared alarms are within their bounds, and no tick moves idle ones.
 -- Assumes nothing.
 use Prim.Native.Nat.{ℕ}
 use mathlib.Core.Path.{_≡_, sym}
@@ -6,16 +6,20 @@ use mathlib.Core.Bool.{true}
 use borrow.Author.Tests.{not-true, eqb-true}
 use lib.IntN.{ℤ}
 use Rattle.measure.specs.declared.Whole.{Whole}
-use Rattle.position.specs.Tests.{all}
+use Rattle.position.specs.Tests.{both, either, all, within, temperature}
 use Rattle.position.proofs.Tests.{both-left, both-right}
 use Rattle.alarm.specs.declared.AlarmSetting.{AlarmSetting}
 use Rattle.alarm.specs.declared.AlarmSettings.{AlarmSettings}
 use Rattle.alarm.specs.declared.Alarm.{Alarm}
 use Rattle.alarm.specs.declared.Alarms.{Alarms}
-use Rattle.alarm.specs.Alarm.{standby, clear, allClear, tickAlarms, allBounded}
+use Rattle.alarm.specs.Alarm.{standby, inRange, allInRange, clear, allClear, tickAlarms, allBounded}
 use Rattle.alarm.proofs.Bounds.{each-holds, clear-bounded}
 use Rattle.alarm.proofs.Idle.{Idle, tick-idle}
-use Rattle.alarm.specs.Idle.{isClear, allAreClear, isIdle, allIdle}
+use Rattle.alarm.specs.Idle.{unset, allUnset, isClear, allAreClear, isIdle, allIdle}
+
+pub unset-in-range : (settings : AlarmSettings) → settings ≡ allUnset → true ≡ allInRange settings
+unfolding allInRange inRange all both either temperature within
+unset-in-range settings is = rw is
 
 clear-is : (alarm : Alarm) → isClear alarm ≡ true → alarm ≡ clear
 unfolding isClear

@@ -1,14 +1,22 @@
--- Short ways of the code: cleared alarms, which are within every bounds, and idle ones, which no tick moves.
+-- Short ways of the code: settings that are all 0, which are in range; cleared alarms, which are within every bounds; idle ones, which no tick moves.
 -- Assumes nothing.
 use mathlib.Core.Bool.{Bool, not}
 use mathlib.Core.List.{[], _∷_}
 use lib.Dec.{eqb}
+use lib.IntN.{pos}
 use Rattle.position.specs.Tests.{both, all}
 use Rattle.alarm.specs.declared.AlarmSetting.{AlarmSetting}
 use Rattle.alarm.specs.declared.AlarmSettings.{AlarmSettings}
 use Rattle.alarm.specs.declared.Alarm.{Alarm}
 use Rattle.alarm.specs.declared.Alarms.{Alarms}
 use Rattle.alarm.specs.Alarm.{standby}
+
+-- settings whose numbers are all 0
+abbrev pub unset : AlarmSetting
+unset = record { kind = 0; high = pos 0; low = pos 0; sensitivity = 0; delay = 0; flags = 0 }
+
+abbrev pub allUnset : AlarmSettings
+allUnset = record { first = unset; second = unset; third = unset; fourth = unset }
 
 unfoldable pub isClear : Alarm → Bool
 isClear alarm = both (eqb (alarm .flags) 0) (eqb (alarm .count) 0)

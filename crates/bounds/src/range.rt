@@ -1,11 +1,13 @@
 // Whether the settings of the alarms are in range.
 ghost use mathlib.Core.Path.{_≡_};
+ghost use mathlib.Core.Bool.{true};
 ghost use Rattle.alarm.specs.Alarm.{inRange, allInRange};
+ghost use Rattle.alarm.specs.Idle.{unset, allUnset};
 use alarm::AlarmSetting;
 use alarm::AlarmSettings;
 use setting::is_temperature;
 
-// Whether those of one are.
+// Whether those of one are in range.
 fn is_in_range(setting: AlarmSetting) -> bool
     ensures { λ result. ⌜ result ≡ inRange setting ⌝ }
 {
@@ -18,10 +20,51 @@ fn is_in_range(setting: AlarmSetting) -> bool
     (kind <= 8) & (is_temperature(high) & (is_temperature(low) & counts))
 }
 
-// Whether all are. If not, refusal 41.
+// Whether the numbers of one are all 0, tested one after the other: of a host without alarms none is missed.
+fn is_unset(setting: AlarmSetting) -> bool
+    ensures { λ result. ⌜ (result ≡ true → setting ≡ unset) ⌝ }
+{
+    if setting.kind != 0 {
+        return false;
+    }
+    if setting.high != 0 {
+        return false;
+    }
+    if setting.low != 0 {
+        return false;
+    }
+    if setting.sensitivity != 0 {
+        return false;
+    }
+    if setting.delay != 0 {
+        return false;
+    }
+    setting.flags == 0
+}
+
+// Whether those of all are.
+fn are_unset(settings: AlarmSettings) -> bool
+    ensures { λ result. ⌜ (result ≡ true → settings ≡ allUnset) ⌝ }
+{
+    if !is_unset(settings.first) {
+        return false;
+    }
+    if !is_unset(settings.second) {
+        return false;
+    }
+    if !is_unset(settings.third) {
+        return false;
+    }
+    is_unset(settings.fourth)
+}
+
+// Whether all are in range. If not, refusal 41.
 pub fn in_range(settings: AlarmSettings) -> bool
     ensures { λ result. ⌜ result ≡ allInRange settings ⌝ }
 {
+    if are_unset(settings) {
+        return true;
+    }
     let first = is_in_range(settings.first);
     let second = is_in_range(settings.second);
     let third = is_in_range(settings.third);

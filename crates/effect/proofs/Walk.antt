@@ -1,7 +1,7 @@
 -- A loop over a list of events: what stands after some of them, and that the rest of the list gives what the whole list gives.
 -- Assumes nothing.
 use mathlib.Core.Path.{_≡_, refl, sym, ap, _∙_, subst}
-use mathlib.Core.Bool.{true, cond}
+use mathlib.Core.Bool.{Bool, true, cond}
 use mathlib.Core.List.{List, [], _∷_}
 use Prim.Native.Nat.{ℕ, zero, suc, _+_, _*_, _-_, _≤_, _<_}
 use native.Mathlib.Omega.{arith}
@@ -9,6 +9,7 @@ use Rattle.field.specs.Tab.{tab}
 use Rattle.setting.specs.declared.Settings.{Settings}
 use Rattle.position.specs.declared.Here.{Here}
 use Rattle.alarm.specs.declared.Alarms.{Alarms}
+use Rattle.alarm.specs.Idle.{allIdle}
 use Rattle.plain.specs.declared.Answer.{Answer}
 use Rattle.plain.specs.declared.Asked.{Asked}
 use Rattle.plain.specs.declared.Event.{Event}
@@ -83,21 +84,24 @@ module _ (setup : Setup) where
 
 -- ---- the loop
 
-pub record Walked (setup : Setup) (size : ℕ) (f : ℕ → Asked) (settings : Settings) (here : Here) (whole now : After) (at remaining : ℕ) : Type 0 where
+pub record Walked (setup : Setup) (size : ℕ) (f : ℕ → Asked) (settings : Settings) (here : Here) (idle : Bool) (whole now : After) (at remaining : ℕ) : Type 0 where
   pub known : Known (setup .bank) (now .state .run .position) settings here
+  pub idle-is : idle ≡ allIdle (setup .config .alarms) (now .state .run .alarms)
   pub room : at + 5 * remaining ≤ size
   pub stands : Stands setup (now .state) (now .store)
   pub gives : eventsFrom setup now (askedEvents (tab f 5 at remaining)) ≡ whole
 
-module _ (setup : Setup) (size : ℕ) (f : ℕ → Asked) (settings : Settings) (here : Here) (whole now : After) (at remaining : ℕ)
-    (walked : Walked setup size f settings here whole now at remaining) where
+module _ (setup : Setup) (size : ℕ) (f : ℕ → Asked) (settings : Settings) (here : Here) (idle : Bool) (whole now : After) (at remaining : ℕ)
+    (walked : Walked setup size f settings here idle whole now at remaining) where
   -- one turn
-  pub turned : 0 < remaining → (there : Here) (next : After) → next ≡ eventsFrom setup now (askedEvents (f at ∷ []))
-      → there ≡ saidAt (setup .bank) settings (next .state .run .position) → Walked setup size f settings there whole next (at + 5) (remaining - 1)
+  pub turned : 0 < remaining → (there : Here) (still : Bool) (next : After) → next ≡ eventsFrom setup now (askedEvents (f at ∷ []))
+      → there ≡ saidAt (setup .bank) settings (next .state .run .position) → still ≡ allIdle (setup .config .alarms) (next .state .run .alarms)
+      → Walked setup size f settings there still whole next (at + 5) (remaining - 1)
   unfolding tab
-  turned l there next h here-is =
+  turned l there still next h here-is idle-is =
       record {
         known = record { settings-are = walked .known .settings-are; here-is = here-is };
+        idle-is = idle-is;
         room = omega (arith, walked .room, l);
         stands = subst (λ (a : After). Stands setup (a .state) (a .store)) (sym h) (stands-turn setup now (f at) (walked .stands));
         gives = more remaining l ∙ walked .gives;

@@ -14,6 +14,7 @@ use Rattle.position.specs.declared.Position.{Position}
 use Rattle.position.specs.declared.Here.{Here}
 use Rattle.position.specs.Program.{hereOf}
 use Rattle.alarm.specs.Alarm.{allInRange}
+use Rattle.alarm.specs.Idle.{allIdle}
 use Rattle.plain.specs.declared.Run.{Run}
 use Rattle.plain.specs.declared.Answer.{Answer}
 use Rattle.plain.specs.Record.{sized}
@@ -49,9 +50,10 @@ pub record Begins (bank store : List ℕ) : Type 0 where
   pub ok : foundIn bank ≡ Checked.Accepted
   pub whole : sized store ≡ true
 
--- what is known within a list of events
-pub record Within (setup : Setup) (settings : Settings) (here : Here) (state : State) (store : List ℕ) : Type 0 where
+-- what is known within a list of events; `idle` says whether no tick moves the alarms
+pub record Within (setup : Setup) (settings : Settings) (here : Here) (idle : Bool) (state : State) (store : List ℕ) : Type 0 where
   pub known : Known (setup .bank) (state .run .position) settings here
+  pub idle-is : idle ≡ allIdle (setup .config .alarms) (state .run .alarms)
   pub stands : Stands setup state store
   pub long : length (state .credits) ≡ 99
 

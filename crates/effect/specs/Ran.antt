@@ -6,6 +6,7 @@ use mathlib.Core.List.{List, [], _∷_}
 use Prim.Native.Nat.{ℕ}
 use Rattle.setting.specs.declared.Settings.{Settings}
 use Rattle.alarm.specs.Alarm.{allInRange}
+use Rattle.alarm.specs.Idle.{allIdle}
 use Rattle.plain.specs.declared.Config.{Config}
 use Rattle.plain.specs.declared.Answer.{Answer}
 use Rattle.plain.specs.declared.Asked.{Asked}
@@ -14,6 +15,7 @@ use Rattle.plain.specs.Event.{State, After, after, dark, makeOutcome, eventsFro
 use Rattle.plain.specs.Listed.{askedEvents}
 use Rattle.effect.specs.declared.Moved.{Moved}
 use Rattle.effect.specs.declared.Ran.{Ran}
+use Rattle.effect.specs.Known.{saidAt}
 use Rattle.effect.specs.Done.{withAlarms, answerBy, answerIn}
 
 -- what a call leaves: state, record and answer
@@ -38,6 +40,11 @@ stateFrom moved credits = record { power = moved .power; run = withAlarms (moved
 -- what it leaves, with its answer
 abbrev pub afterMoved : Setup → Moved → List ℕ → List ℕ → After
 afterMoved setup moved credits store = after (stateFrom moved credits) store (answerIn setup (moved .progress .position) (moved .accepted) (moved .refusal))
+
+-- what goes with it to the next event: what is said at its position, and whether no tick moves its alarms
+pub record Told (setup : Setup) (settings : Settings) (moved : Moved) : Type 0 where
+  pub here-is : moved .here ≡ saidAt (setup .bank) settings (moved .progress .position)
+  pub idle-is : moved .idle ≡ allIdle (setup .config .alarms) (moved .alarms)
 
 -- what the next one leaves, if one is asked for
 abbrev pub turnOf : Setup → Moved → List ℕ → List ℕ → Asked → After

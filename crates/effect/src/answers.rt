@@ -186,18 +186,17 @@ pub fn effect_of(
     ensures { λ result. ⌜ result ≡ effectOf (over (now (bank .entry)) config) (now (store .entry)) run event done ⌝ }
 {
     let before = run.position;
-    let progress = done.progress;
+    let progress = by_parts(done.progress);
     let position = progress.position;
     let accepted = done.accepted;
     let refusal = done.refusal;
     let there = here_after(bank, settings, here, before, position);
     let idle = judge::idle(config.alarms, run.alarms);
-    let held = run.alarms;
-    let alarms = if keeps(accepted, idle, event) {
-        held
-    } else {
-        alarms_by(config, there, store, event, held, progress)
-    };
+    let mut alarms = run.alarms;
+    if !keeps(accepted, idle, event) {
+        let held = run.alarms;
+        alarms = alarms_by(config, there, store, event, held, by_parts(progress));
+    }
     Effect {
         power: done.power,
         run: with_alarms(progress, alarms),

@@ -50,6 +50,7 @@ struct Moved {
     alarms: Alarms,
     here: Here,
     power: bool,
+    idle: bool, // whether no tick moves the alarms
     accepted: bool,
     refusal: Refusal, // if the event is not accepted
 }

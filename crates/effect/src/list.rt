@@ -4,8 +4,8 @@ ghost use mathlib.Core.Path.{_≡_};
 ghost use Rattle.plain.specs.Setup.{over};
 ghost use Rattle.plain.specs.Event.{eventsFrom};
 ghost use Rattle.plain.specs.Listed.{eventsIn};
-ghost use Rattle.effect.specs.Known.{saidAt, Within, Made};
-ghost use Rattle.effect.specs.Ran.{stateFrom, ranBy, turnOf, afterMoved, afterRan};
+ghost use Rattle.effect.specs.Known.{Within, Made};
+ghost use Rattle.effect.specs.Ran.{stateFrom, ranBy, turnOf, afterMoved, afterRan, Told};
 use crate::Moved;
 use crate::Ran;
 use crate::answers::answered;
@@ -37,45 +37,36 @@ fn turn(
     moved: Moved,
     asked: Asked,
 ) -> Moved
-    requires { ⌜ Within (over (now bank) config) settings (moved .here) (stateFrom moved (now credits)) (now store) ⌝ }
+    requires { ⌜ Within (over (now bank) config) settings (moved .here) (moved .idle) (stateFrom moved (now credits)) (now store) ⌝ }
     ensures { λ o. ⌜ afterMoved (over (now (bank .entry)) config) o (now (credits .exit)) (now (store .exit))
         ≡ turnOf (over (now (bank .entry)) config) moved (now (credits .entry)) (now (store .entry)) asked ⌝ }
-    ensures { λ result. ⌜ result .here ≡ saidAt (now (bank .entry)) settings (result .progress .position) ⌝ }
+    ensures { λ result. ⌜ Told (over (now (bank .entry)) config) settings result ⌝ }
 {
     let Asked::Of(event) = asked else {
         return moved;
     };
-    let progress = moved.progress;
-    let before = progress.position;
+    let from = moved.progress;
+    let before = from.position;
     let here = moved.here;
     let power = moved.power;
-    let bounded = if is_return(event) {
+    let fits = if is_return(event) {
         is_bounded(config, &store[..])
     } else {
         true
     };
-    let done = known(
-        bank,
-        settings,
-        here,
-        &store[..],
-        power,
-        progress,
-        bounded,
-        event,
-    );
+    let done = known(bank, settings, here, &store[..], power, from, fits, event);
     let left = by_parts(done.progress);
     let position = left.position;
     let accepted = done.accepted;
     let refusal = done.refusal;
     let there = here_after(bank, settings, here, before, position);
-    let idle = judge::idle(config.alarms, moved.alarms);
-    let held = moved.alarms;
-    let alarms = if keeps(accepted, idle, event) {
-        held
-    } else {
-        alarms_by(config, there, &store[..], event, held, left)
-    };
+    let mut alarms = moved.alarms;
+    let mut idle = moved.idle;
+    if !keeps(accepted, idle, event) {
+        let held = moved.alarms;
+        alarms = alarms_by(config, there, &store[..], event, held, by_parts(left));
+        idle = judge::idle(config.alarms, alarms);
+    }
     let credit = credit_after(event, before, accepted);
     settle(credits, &store[..], credit);
     if done.saves {
@@ -87,6 +78,7 @@ fn turn(
         progress: left,
         alarms,
         here: there,
+        idle,
         accepted,
         refusal,
     }
@@ -122,6 +114,7 @@ pub fn run_from(bank: &[u8], config: Config, store: &mut [u8], made: Ran, bytes:
         power: made.power,
         progress: progress_of(run),
         alarms,
+        idle: judge::idle(config.alarms, alarms),
         here: program::here_at(bank, settings, position.pattern, position.step),
         accepted: true,
         refusal: Refusal::Unsound, // none

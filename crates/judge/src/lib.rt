@@ -52,9 +52,6 @@ pub fn tick(
 ) -> Alarms
     ensures { λ result. ⌜ result ≡ tickAlarms settings (position .mode) (wholeOf measured) (setValueOf here position) alarms ⌝ }
 {
-    if idle(settings, alarms) {
-        return alarms;
-    }
     if (position.mode == 1) | (position.mode == 2) {
         let Whole::Value(whole) = whole_value(measured) else {
             return alarms;

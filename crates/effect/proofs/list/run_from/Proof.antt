@@ -30,7 +30,7 @@ use Rattle.effect.proofs.list.run_from.Tie as tie
 
 abbrev Inv-loop : tie.InvT-loop
 Inv-loop bank config store₀ bytes settings moved₀ credits₀ at₀ remaining₀ store moved credits at remaining =
-    Walked (over bank config) (length bytes) (askedAt bytes) settings (moved .here)
+    Walked (over bank config) (length bytes) (askedAt bytes) settings (moved .here) (moved .idle)
     (eventsFrom (over bank config) (afterMoved (over bank config) moved₀ credits₀ store₀) (askedEvents (tab (askedAt bytes) 5 at₀ remaining₀)))
     (afterMoved (over bank config) moved credits store) at remaining
 
@@ -48,19 +48,24 @@ here-at-requires c κs = search needs
 
 loop-holds : tie.Need-loop-holds Inv-loop μ-loop
 loop-holds c =
-    let start = c .before .before .before .before .before .before .before .before .before .before in
-    let settings-are = c .before .before .before .before .before .before .read-settings .ensures in
-    let is = sym (c .before .before .progress-of .ensures) in
+    let start = c .before .before .before .before .before .before .before .before .before .before .before in
+    let read-settings = c .before .before .before .before .before .before .before .read-settings in
+    let here-at = c .before .here-at in
+    let is = sym (c .before .before .before .progress-of .ensures) in
     let setup = over (now (start .args .bank)) (start .args .config) in
     let made = start .args .made in
     record {
-      known = subst (λ (progress : Progress). Known (setup .bank) (progress .position) (c .before .before .before .before .before .before .read-settings .result) (c .before .here-at .result)) is
-          (record { settings-are = settings-are; here-is = c .before .here-at .ensures });
+      known = subst (λ (progress : Progress). Known (setup .bank) (progress .position) (read-settings .result) (here-at .result)) is
+          (record { settings-are = read-settings .ensures; here-is = here-at .ensures });
+      idle-is = c .before .before .idle .ensures;
       room = omega arith;
       stands = subst (λ (progress : Progress). Stands setup (record { power = made .power; run = withAlarms progress (made .run .alarms); credits = made .credits }) (now (start .args .store))) is
           (start .pre .stands);
       gives = refl;
     }
+
+idle-requires : tie.Need-idle-requires Inv-loop μ-loop
+idle-requires c κs = search needs
 
 asked-at-requires : tie.Need-asked-at-requires Inv-loop μ-loop
 asked-at-requires c κs = search needs
@@ -69,11 +74,11 @@ turn-requires : tie.Need-turn-requires Inv-loop μ-loop
 turn-requires c κs =
     let h = c .before .before .before .before .loop .inv in
     let stands = h .stands in
-    record { known = h .known; stands = stands; long = stands-long _ (stands .ok) _ _ (stands .standing) }
+    record { known = h .known; idle-is = h .idle-is; stands = stands; long = stands-long _ (stands .ok) _ _ (stands .standing) }
 
 add-at : tie.Need-add-at Inv-loop μ-loop
 add-at c =
-    let start = c .before .before .before .before .before .before .before .before .before .before .before .before .before .before .before .before .before .before in
+    let start = c .before .before .before .before .before .before .before .before .before .before .before .before .before .before .before .before .before .before .before in
     omega (arith, c .before .before .before .before .before .before .before .loop .inv .room, c .before .before .before .before .before .before .loop-test .taken)
 
 sub-remaining : tie.Need-sub-remaining Inv-loop μ-loop
@@ -84,13 +89,14 @@ loop-less c = omega (arith, c .before .before .before .before .before .before .l
 
 loop-again : tie.Need-loop-again Inv-loop μ-loop
 loop-again c =
-    let start = c .before .before .before .before .before .before .before .before .before .before .before .before .before .before .before .before .before .before in
-    let setup = over (now (start .args .bank)) (start .args .config) in
+    let args = c .before .before .before .before .before .before .before .before .before .before .before .before .before .before .before .before .before .before .before .args in
+    let setup = over (now (args .bank)) (args .config) in
     let l = c .before .before .before .before .before .before .before .loop in
+    let turn = c .before .before .turn in
     let left = afterMoved setup (l .moved) (l .credits) (l .store) in
-    turned setup _ _ _ _ _ left (l .at) (l .remaining) (l .inv) (c .before .before .before .before .before .before .loop-test .taken) _ _
-    (c .before .before .turn .ensures .0 ∙ ap (λ (asked : Asked). eventsFrom setup left (askedEvents (asked ∷ []))) (c .before .before .before .asked-at .ensures))
-    (c .before .before .turn .ensures .1)
+    turned setup _ _ _ _ _ _ left (l .at) (l .remaining) (l .inv) (c .before .before .before .before .before .before .loop-test .taken) _ _ _
+    (turn .ensures .0 ∙ ap (λ (asked : Asked). eventsFrom setup left (askedEvents (asked ∷ []))) (c .before .before .before .asked-at .ensures))
+    (turn .ensures .1 .here-is) (turn .ensures .1 .idle-is)
 
 ended-requires : tie.Need-ended-requires Inv-loop μ-loop
 ended-requires c κs = search needs
@@ -99,36 +105,35 @@ same-length : tie.Need-same-length Inv-loop μ-loop
 unfolding sized
 same-length c =
     let stands = c .before .before .loop .inv .stands in
-    let begun = c .before .before .before .before .before .before .before .before .before .before .before .before .before .pre .stands in
+    let begun = c .before .before .before .before .before .before .before .before .before .before .before .before .before .before .pre .stands in
     eqb-true _ _ (stands-sized _ (stands .ok) _ _ (stands .standing)) ∙ sym (eqb-true _ _ (stands-sized _ (begun .ok) _ _ (begun .standing)))
 
 returns : tie.Need-returns Inv-loop μ-loop
 unfolding eventsIn
 returns c =
-    let back13 = c .before .before .before .before .before .before .before .before .before .before .before .before .before in
-    let loop = c .before .before .loop in
+    let start = c .before .before .before .before .before .before .before .before .before .before .before .before .before .before in
+    let l = c .before .before .loop in
     let here-at = c .before .before .before .before .here-at in
-    let progress-of = c .before .before .before .before .before .progress-of in
-    let start = back13 in
+    let idle = c .before .before .before .before .before .idle in
     let setup = over (now (start .args .bank)) (start .args .config) in
     let made = start .args .made in
-    let l = loop in
     let known = l .inv .known in
     let list = tab (askedAt (now (start .args .bytes))) 5 0 _ in
     ap (λ (ran : Ran). afterRan ran (l .store)) (c .ended .ensures)
     ∙ rw (said-in setup (l .moved .progress .position) known, known .settings-are)
-    (walked-all setup _ _ _ _ _ (afterMoved setup (l .moved) (l .credits) (l .store)) (l .at) (l .remaining) (l .inv) (c .before .loop-test .left))
+    (walked-all setup _ _ _ _ _ _ (afterMoved setup (l .moved) (l .credits) (l .store)) (l .at) (l .remaining) (l .inv) (c .before .loop-test .left))
     ∙ ap (λ (progress : Progress).
     let first : Moved = record {
       power = made .power;
       progress = progress;
       alarms = made .run .alarms;
       here = here-at .result;
+      idle = idle .result;
       accepted = true;
       refusal = Refusal.Unsound;
     } in
     eventsFrom setup (afterMoved setup first (made .credits) (now (start .args .store))) (askedEvents list))
-    (progress-of .ensures)
+    (c .before .before .before .before .before .before .progress-of .ensures)
     ∙ ap (λ (answer : Answer). eventsFrom setup (after (ranState made) (now (start .args .store)) answer) (askedEvents list))
     (sym (start .pre .answer-is))
 
@@ -140,6 +145,7 @@ run-from-spec =
     μ-loop
     read-settings-requires
     progress-of-requires
+    idle-requires
     here-at-requires
     loop-holds
     asked-at-requires

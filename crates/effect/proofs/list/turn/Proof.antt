@@ -1,14 +1,21 @@
 -- `effect::list::turn` meets its contract.
 -- Assumes nothing.
 use mathlib.Core.Path.{_≡_, ap, sym, subst, _∙_}
+use mathlib.Core.Bool.{cond}
+use mathlib.Core.List.{List}
 use mathlib.Core.Logic.{⊎-elim}
+use Prim.Native.Nat.{ℕ}
+use borrow.Author.Tests.{not-true, not-false}
 use denote.Ref.{now}
+use Rattle.alarm.specs.Idle.{allIdle}
 use Rattle.effect.specs.declared.Progress.{Progress}
 use Rattle.effect.specs.declared.Done.{Done}
 use Rattle.plain.proofs.Standing.{stands-sized, stands-sound}
-use Rattle.plain.specs.Event.{eventsFrom}
+use Rattle.plain.specs.Event.{after, recordFor, eventOutcome, eventsFrom}
+use Rattle.plain.specs.Record.{creditsIn}
+use Rattle.plain.specs.Run.{credited}
 use Rattle.plain.specs.Setup.{over}
-use Rattle.effect.specs.Done.{alarmsIf, boundedFor, DoesTo}
+use Rattle.effect.specs.Done.{withAlarms, answerIn, creditIf, alarmsIf, boundedFor, DoesTo}
 use Rattle.effect.specs.Known.{Known, Ready}
 use Rattle.effect.specs.Ran.{stateFrom}
 use Rattle.effect.proofs.Laws.{few, said-in, return-bounded, other-bounded, kept-alarms, moved-alarms}
@@ -32,8 +39,7 @@ ready c =
 -- whether the record's alarms are within their bounds, where it is asked
 bounded-is : (c : tie.Joined1) →
     let args = c .before .before .before .before .before .before .before .before .before .before .args in
-    let asked = c .before .before .before .before .before .before .asked in
-    c .if1 .bounded ≡ boundedFor (args .config) (now (args .store)) (asked .given .0 .0)
+    c .if1 .fits ≡ boundedFor (args .config) (now (args .store)) (c .before .before .before .before .before .before .asked .given .0 .0)
 bounded-is c =
     let args = c .before .before .before .before .before .before .before .before .before .before .args in
     let event = c .before .before .before .before .before .before .asked .given .0 .0 in
@@ -43,26 +49,74 @@ bounded-is c =
 
 -- the alarms that are left, kept or moved
 alarms-are : (c : tie.Joined2) →
-    let start = c .before .before .before .before .before .before .before .before .before .before .before .before .before .before .before .before .before .before .before .args in
-    let known = c .before .before .before .before .before .before .before .known in
-    let by-parts = c .before .before .before .before .before .before .by-parts in
-    let here-after = c .before .before .before .before .here-after in
-    let asked = c .before .before .before .before .before .before .before .before .before .before .before .before .before .before .before .asked in
-    let done = known .result in
-    let left = by-parts .result in
+    let a = c .before .before .before .before .before .before .before .before .before .before .before .before .before .before .before .before .before .before .args in
+    let done = c .before .before .before .before .before .before .known .result in
+    let there = c .before .before .before .here-after .result in
+    let left = c .before .before .before .before .before .by-parts .result in
+    let asked = c .before .before .before .before .before .before .before .before .before .before .before .before .before .before .asked in
     c .if2 .alarms
-    ≡ alarmsIf (done .accepted) (start .config) (here-after .result) (now (start .store)) (asked .given .0 .0) (start .moved .alarms) (left .position) (left .measured)
+    ≡ alarmsIf (done .accepted) (a .config) there (now (a .store)) (asked .given .0 .0) (a .moved .alarms) (left .position) (left .measured)
 alarms-are c =
-    let accepted = c .before .before .before .before .before .before .before .known .result .accepted in
-    let event = c .before .before .before .before .before .before .before .before .before .before .before .before .before .before .before .asked .given .0 .0 in
+    let start = c .before .before .before .before .before .before .before .before .before .before .before .before .before .before .before .before .before .before in
+    let idle = start .args .moved .idle in
+    let accepted = c .before .before .before .before .before .before .known .result .accepted in
+    let event = c .before .before .before .before .before .before .before .before .before .before .before .before .before .before .asked .given .0 .0 in
     let keeps = c .before .keeps in
-    let idle = c .before .before .before .idle in
-    ⊎-elim (λ x. x .1 ∙ kept-alarms accepted (idle .result) _ _ _ event _ _ _ (idle .ensures) (sym (keeps .ensures) ∙ x .0 .taken))
-    (λ x. x .3 ∙ x .2 .ensures ∙ moved-alarms accepted (idle .result) _ _ _ event _ _ _ (sym (keeps .ensures) ∙ x .0 .left)) (c .if2 .came)
+    ⊎-elim
+    (λ x. x .6 ∙ x .4 .ensures
+    ∙ rw (x .3 .ensures) (moved-alarms accepted idle _ _ _ event _ _ _ (sym (keeps .ensures) ∙ not-true _ (x .0 .taken))))
+    (λ x. x .1 ∙ kept-alarms accepted idle _ _ _ event _ _ _ (start .pre .idle-is) (sym (keeps .ensures) ∙ not-false _ (x .0 .left))) (c .if2 .came)
+
+-- whether no tick moves them
+idle-is : (c : tie.Joined2) →
+    let a = c .before .before .before .before .before .before .before .before .before .before .before .before .before .before .before .before .before .before .args in
+    c .if2 .idle ≡ allIdle (a .config .alarms) (c .if2 .alarms)
+idle-is c =
+    let pre = c .before .before .before .before .before .before .before .before .before .before .before .before .before .before .before .before .before .before .pre in
+    ⊎-elim (λ x. x .7 ∙ x .5 .ensures ∙ rw (x .6)) (λ x. x .2 ∙ pre .idle-is ∙ rw (x .1)) (c .if2 .came)
+
+-- what is left, once the credits and the record are those that the event leaves
+moved-on : (c : tie.Joined2) →
+    let a = c .before .before .before .before .before .before .before .before .before .before .before .before .before .before .before .before .before .before .args in
+    let setup = over (now (a .bank)) (a .config) in
+    let done = c .before .before .before .before .before .before .known .result in
+    let left = c .before .before .before .before .before .by-parts .result in
+    let event = c .before .before .before .before .before .before .before .before .before .before .before .before .before .before .asked .given .0 .0 in
+    let run = withAlarms left (c .if2 .alarms) in
+    (credits written : List ℕ)
+    → credits ≡ credited (creditIf (done .accepted) event (a .moved .progress .position)) (creditsIn (now (a .store))) (now (a .credits))
+    → written ≡ cond (done .saves) (recordFor run credits) (now (a .store))
+    → after (record { power = done .power; run = run; credits = credits }) written (answerIn setup (left .position) (done .accepted) (done .refusal))
+    ≡ eventOutcome setup (now (a .store)) (stateFrom (a .moved) (now (a .credits))) event
+moved-on c credits written gains saves =
+    let start = c .before .before .before .before .before .before .before .before .before .before .before .before .before .before .before .before .before .before in
+    let a = start .args in
+    let setup = over (now (a .bank)) (a .config) in
+    let known = c .before .before .before .before .before .before .known in
+    let by-parts = c .before .before .before .before .before .by-parts in
+    let here-after = c .before .before .before .here-after in
+    let event = c .before .before .before .before .before .before .before .before .before .before .before .before .before .before .asked .given .0 .0 in
+    let argued = c .before .before .before .before .before .before .before in
+    let bounded = c .before .before .before .before .before .before .before .before in
+    let to : Progress → Done = λ progress. record {
+      power = known .result .power;
+      progress = progress;
+      saves = known .result .saves;
+      accepted = known .result .accepted;
+      refusal = known .result .refusal;
+    } in
+    let said : Known (setup .bank) (by-parts .result .position) (a .settings) (here-after .result) =
+    record { settings-are = start .pre .known .settings-are; here-is = here-after .ensures } in
+    let does = subst (λ (progress : Progress). DoesTo setup (now (a .store)) (a .moved .power) (a .moved .progress) event (to progress) (a .moved .alarms))
+    (sym (by-parts .ensures)) (known .ensures (a .config) (a .moved .alarms) (ready argued) (bounded-is bounded)) in
+    one-turn setup (a .moved) (now (a .credits)) (now (a .store)) (start .pre .stands) event (to (by-parts .result)) does (c .if2 .alarms)
+    (here-after .result) (alarms-are c) (said-in setup (by-parts .result .position) said) credits written gains saves
 
 returns : tie.Need-returns
 unfolding eventsFrom
-returns c = (rw (c .enum-told .given .1), c .before .before .before .before .pre .known .here-is)
+returns c =
+    let pre = c .before .before .before .before .pre in
+    (rw (c .enum-told .given .1), record { here-is = pre .known .here-is; idle-is = pre .idle-is })
 
 known-requires : tie.Need-known-requires
 known-requires c κs =
@@ -75,14 +129,13 @@ here-after-requires c κs = c .before .before .before .before .before .before .b
 
 settle-requires : tie.Need-settle-requires
 settle-requires c κs =
-    let pre = c .before .before .before .before .before .before .before .before .before .before .before .before .before .before .before .before .before .before .before .before .before .before .pre in
-    pre .long
+    let middle = c .before .before .before in
+    middle .before .before .before .before .before .before .before .before .before .before .before .before .before .before .before .before .before .before .pre .long
 
 save-requires : tie.Need-save-requires
 save-requires c κs =
-    let middle = c .before .before .before .before .before .before .before .before .before .before .before .before .before .before in
-    let pre = middle .before .before .before .before .before .before .before .before .before .before .before .before .pre in
-    let stands = pre .stands in
+    let middle = c .before .before .before .before .before .before .before in
+    let stands = middle .before .before .before .before .before .before .before .before .before .before .before .before .before .before .before .before .before .before .pre .stands in
     stands-sized _ (stands .ok) _ _ (stands .standing)
 
 same-length : tie.Need-same-length
@@ -91,74 +144,25 @@ same-length c = c .before .before .save .kept .0
 returns-2 : tie.Need-returns-2
 unfolding eventsFrom
 returns-2 c =
-    let middle = c .before .before .before .before .before .before .before .before .before .before .before .before .before .before in
-    let start = middle .before .before .before .before .before .before .before .before .before .before .before .before .before .before .before in
-    let given = middle .before .before .before .known in
-    let by-parts = c .before .before .before .before .before .before .before .before .before .before .before .before .before .before .before .before .by-parts in
-    let here-after = c .before .before .before .before .before .before .before .before .before .before .before .before .before .before .here-after in
-    let asked = middle .before .before .before .before .before .before .before .before .before .before .before .asked in
     let joined = c .before .before .before .before .before .before .before .before .before .before in
-    let back18 = middle .before .before .before .before in
-    let back19 = middle .before .before .before .before .before in
-    let settle = c .before .before .before .before .before .before .settle in
+    let asked = joined .before .before .before .before .before .before .before .before .before .before .before .before .before .before .asked in
+    let here-after = joined .before .before .before .here-after in
     let credit-after = c .before .before .before .before .before .before .before .before .before .credit-after in
-    let if3 = c .before .before .before .before .before .if3 in
-    let save = c .before .before .save in
-    let a = start .args in
-    let setup = over (now (a .bank)) (a .config) in
-    let stands = start .pre .stands in
-    let left = by-parts .result .position in
-    let to : Progress → Done = λ progress. record {
-      power = given .result .power;
-      progress = progress;
-      saves = given .result .saves;
-      accepted = given .result .accepted;
-      refusal = given .result .refusal;
-    } in
-    let done = to (by-parts .result) in
-    let event = asked .given .0 .0 in
-    let known : Known (setup .bank) left (a .settings) (here-after .result) = record { settings-are = start .pre .known .settings-are; here-is = here-after .ensures } in
-    let does = subst (λ (progress : Progress). DoesTo setup (now (a .store)) (a .moved .power) (a .moved .progress) event (to progress) (a .moved .alarms))
-    (sym (by-parts .ensures)) (given .ensures (a .config) (a .moved .alarms) (ready (back18)) (bounded-is (back19))) in (
-      rw (asked .given .1)
-          (one-turn setup (a .moved) (now (a .credits)) (now (a .store)) stands _ done does (joined .if2 .alarms) (here-after .result)
-          (alarms-are joined) (said-in setup left known) _ _ (settle .ensures ∙ rw (credit-after .ensures)) (rw (if3 .taken) (save .ensures))),
-      here-after .ensures,
+    let settle = c .before .before .before .before .before .before .settle in
+    let saving = c .before .before .before .before .before .if3 in (
+      rw (asked .given .1) (moved-on joined _ _ (settle .ensures ∙ rw (credit-after .ensures)) (rw (saving .taken) (c .before .before .save .ensures))),
+      record { here-is = here-after .ensures; idle-is = idle-is joined },
     )
 
 returns-3 : tie.Need-returns-3
 unfolding eventsFrom
 returns-3 c =
-    let middle = c .before .before .before .before .before .before .before .before .before .before .before .before .before .before in
-    let start = middle .before .before .before .before .before .before .before .before .before .before in
-    let given = c .before .before .before .before .before .before .before .before .before .before .before .before .known in
-    let by-parts = c .before .before .before .before .before .before .before .before .before .before .before .by-parts in
-    let here-after = c .before .before .before .before .before .before .before .before .before .here-after in
-    let asked = middle .before .before .before .before .before .before .asked in
     let joined = c .before .before .before .before .before in
-    let back13 = c .before .before .before .before .before .before .before .before .before .before .before .before .before in
-    let back14 = c .before .before .before .before .before .before .before .before .before .before .before .before .before .before in
-    let credit-after = c .before .before .before .before .credit-after in
-    let a = start .args in
-    let setup = over (now (a .bank)) (a .config) in
-    let stands = start .pre .stands in
-    let left = by-parts .result .position in
-    let to : Progress → Done = λ progress. record {
-      power = given .result .power;
-      progress = progress;
-      saves = given .result .saves;
-      accepted = given .result .accepted;
-      refusal = given .result .refusal;
-    } in
-    let done = to (by-parts .result) in
-    let event = asked .given .0 .0 in
-    let known : Known (setup .bank) left (a .settings) (here-after .result) = record { settings-are = start .pre .known .settings-are; here-is = here-after .ensures } in
-    let does = subst (λ (progress : Progress). DoesTo setup (now (a .store)) (a .moved .power) (a .moved .progress) event (to progress) (a .moved .alarms))
-    (sym (by-parts .ensures)) (given .ensures (a .config) (a .moved .alarms) (ready (back13)) (bounded-is (back14))) in (
-      rw (asked .given .1)
-          (one-turn setup (a .moved) (now (a .credits)) (now (a .store)) stands _ done does (joined .if2 .alarms) (here-after .result)
-          (alarms-are joined) (said-in setup left known) _ _ (c .before .settle .ensures ∙ rw (credit-after .ensures)) (rw (c .if3 .left))),
-      here-after .ensures,
+    let asked = joined .before .before .before .before .before .before .before .before .before .before .before .before .before .before .asked in
+    let here-after = joined .before .before .before .here-after in
+    let credit-after = c .before .before .before .before .credit-after in (
+      rw (asked .given .1) (moved-on joined _ _ (c .before .settle .ensures ∙ rw (credit-after .ensures)) (rw (c .if3 .left))),
+      record { here-is = here-after .ensures; idle-is = idle-is joined },
     )
 
 pub turn-spec : {M : Type 1} → statement M
@@ -173,6 +177,7 @@ turn-spec =
     known-requires
     (λ c κs. search needs)
     here-after-requires
+    (λ c κs. search needs)
     (λ c κs. search needs)
     (λ c κs. search needs)
     (λ c κs. search needs)
