@@ -28,9 +28,9 @@ fn alarms_in(bytes: &[u8]) -> Alarms
     ensures { λ result. ⌜ result ≡ alarmsIn (drop 1 (now (bytes .entry))) ⌝ }
 {
     if bytes.len() < 1 {
-        return checkpoint::read_alarms(bytes);
+        return alarm_part::read_alarms(bytes);
     }
-    checkpoint::read_alarms(&bytes[1..])
+    alarm_part::read_alarms(&bytes[1..])
 }
 
 // The run. Bytes past the end read as 0.

@@ -34,7 +34,7 @@ fn put_alarms(bytes: &mut [u8], alarms: Alarms)
     requires { ⌜ length (now bytes) ≡ stateSize ⌝ }
     ensures { λ _. ⌜ now (bytes .exit) ≡ sets (now (bytes .entry)) (1 + alarmsFrom) (row alarmWidths (alarmNumbers alarms)) ⌝ }
 {
-    checkpoint::write_alarms(bytes, ALARMS, alarms);
+    alarm_part::write_alarms(bytes, ALARMS, alarms);
 }
 
 // Position, credits and alarms, in their place.

@@ -77,7 +77,7 @@ pub fn alarms_by(
         Event::Tick(_) => judge::tick(config.alarms, there, position, value, alarms),
         Event::Press(pressed) => bounds::kept_in(position.mode, cleared_by(pressed, alarms)),
         Event::Cut => bounds::cleared(),
-        Event::Return(_) => bounds::kept_in(position.mode, checkpoint::read_alarms(store)),
+        Event::Return(_) => bounds::kept_in(position.mode, alarm_part::read_alarms(store)),
     }
 }
 
@@ -110,6 +110,6 @@ pub fn is_bounded(config: Config, store: &[u8]) -> bool
     ensures { λ result. ⌜ result ≡ recordBounded config (now (store .entry)) ⌝ }
 {
     let position = checkpoint::read_position(store);
-    let alarms = checkpoint::read_alarms(store);
+    let alarms = alarm_part::read_alarms(store);
     bounds::within_bounds(config.alarms, position.mode, alarms)
 }

@@ -1,2 +1,3 @@
--- The law that the copy cites.
+-- The law that the copy cites, and the laws of a row that is copied.
 pub mod Turn
+pub mod Part

@@ -8,7 +8,7 @@ use mir.Syntax.{w16}
 use mir.Val.{SFits, ofZ}
 use Rattle.field.specs.Field.{digits}
 use Rattle.field.specs.Row.{row}
-use Rattle.checkpoint.proofs.Laws.{byte-digit}
+use Rattle.stored.proofs.Part.{byte-digit}
 use borrow.Author.Needs.{needs}
 use Rattle.checkpoint.proofs.position_bytes.Statement.{statement}
 use Rattle.checkpoint.proofs.position_bytes.Tie as tie

@@ -1,7 +1,7 @@
--- `checkpoint::read_alarm` meets its contract. Assumes nothing.
+-- `alarm_part::read_alarm` meets its contract. Assumes nothing.
 use borrow.Author.Needs.{needs}
-use Rattle.checkpoint.proofs.read_alarm.Statement.{statement}
-use Rattle.checkpoint.proofs.read_alarm.Tie as tie
+use Rattle.alarm_part.proofs.read_alarm.Statement.{statement}
+use Rattle.alarm_part.proofs.read_alarm.Tie as tie
 
 returns : tie.Need-returns
 returns c = λ i. record { flags = c .before .byte .ensures i; count = c .word .ensures i }

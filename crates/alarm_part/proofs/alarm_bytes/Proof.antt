@@ -1,13 +1,13 @@
--- `checkpoint::alarm_bytes` meets its contract.
+-- `alarm_part::alarm_bytes` meets its contract.
 -- Assumes nothing.
 use Prim.Native.Nat.{_/_, _%_}
 use mathlib.Core.List.{[], _∷_}
 use Rattle.field.specs.Field.{digits}
 use Rattle.field.specs.Row.{row}
-use Rattle.checkpoint.proofs.Laws.{byte-digit}
+use Rattle.stored.proofs.Part.{byte-digit}
 use borrow.Author.Needs.{needs}
-use Rattle.checkpoint.proofs.alarm_bytes.Statement.{statement}
-use Rattle.checkpoint.proofs.alarm_bytes.Tie as tie
+use Rattle.alarm_part.proofs.alarm_bytes.Statement.{statement}
+use Rattle.alarm_part.proofs.alarm_bytes.Tie as tie
 
 returns : tie.Need-returns
 unfolding row digits

@@ -1,10 +1,10 @@
--- `checkpoint::read_alarms` meets its contract. Assumes nothing.
+-- `alarm_part::read_alarms` meets its contract. Assumes nothing.
 use Rattle.field.specs.Row.{total}
 use Rattle.alarm.specs.Part.{alarmsAt}
 use Rattle.plain.specs.Record.{widthsOf, creditWidths, alarmsIn}
 use borrow.Author.Needs.{needs}
-use Rattle.checkpoint.proofs.read_alarms.Statement.{statement}
-use Rattle.checkpoint.proofs.read_alarms.Tie as tie
+use Rattle.alarm_part.proofs.read_alarms.Statement.{statement}
+use Rattle.alarm_part.proofs.read_alarms.Tie as tie
 
 returns : tie.Need-returns
 unfolding alarmsIn alarmsAt creditWidths widthsOf total
