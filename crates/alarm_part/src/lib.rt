@@ -52,7 +52,7 @@ pub fn write_alarms(bytes: &mut [u8], at: usize, alarms: Alarms)
 
 // The alarm at an offset of a record, and the alarms that it holds. Bytes past the end read as 0.
 fn read_alarm(store: &[u8], at: usize) -> Alarm
-    requires { ⌜ at < 423 ⌝ }
+    requires { ⌜ at < 1000 ⌝ }
     ensures { λ result. ⌜ result ≡ alarmAt (now (store .entry)) at ⌝ }
 {
     Alarm {

@@ -192,6 +192,7 @@ pub fn effect_of(
     let refusal = done.refusal;
     let there = here_after(bank, settings, here, before, position);
     let idle = judge::idle(config.alarms, run.alarms);
+    // What only moved alarms need is made where they move.
     let mut alarms = run.alarms;
     if !keeps(accepted, idle, event) {
         let held = run.alarms;

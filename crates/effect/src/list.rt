@@ -27,7 +27,7 @@ use plain::Config;
 use plain::Refusal;
 use setting::Settings;
 
-// What is asked for, if anything is.
+// What is asked for, if anything is. What only moved alarms need is made where they move, and whether no tick moves them is looked up only then.
 fn turn(
     bank: &[u8],
     config: Config,
