@@ -6,13 +6,13 @@ use line::Between;
 fn print_credits(between: Between) {
     let mut out = io::large_buffer();
     let state = between.state;
-    let end = line::credits(state, &mut out);
-    terminal::show(&out, end);
+    let end = credit_lines::credits(state, &mut out);
+    files::show(&out, end);
 }
 
 fn main() {
     let mut buffer = io::buffer();
-    let loaded = terminal::load_bank(&mut buffer);
+    let loaded = files::load_bank(&mut buffer);
     if !loaded.is_read {
         return;
     }

@@ -2,7 +2,7 @@
 -- Assumes nothing.
 use Prim.Native.Nat.{ℕ, _+_, _*_, _^_, _≤_, _<_, min}
 use mathlib.Core.Bool.{Bool, true, false, cond}
-use mathlib.Core.List.{List, [], _∷_, _++_, append-nil, map}
+use mathlib.Core.List.{List, [], _∷_, _++_, map}
 use mathlib.Core.Path.{_≡_, refl, sym, ap, _∙_}
 use native.Mathlib.Nat.{zero-add}
 use native.Mathlib.Numerals.{add-one}
@@ -10,8 +10,8 @@ use native.Mathlib.Omega.{arith}
 use borrow.Author.Tests.{leb-true, leb-false}
 use lib.Dec.{eqb, leb}
 use lib.IntN.{ℤ, pos}
-use lib.ListN.{length, take, drop, getD, set, length-append}
-use lib.Seq.{sets, drop-cons, take-all, take-at, take-suc, take-suc-set, length-take-le}
+use lib.ListN.{length, take, getD, set, length-append}
+use lib.Seq.{sets, take-all, take-at, take-suc, take-suc-set, length-take-le}
 use mir.Facts.{toZ-pos}
 use mir.Syntax.{w64}
 use mir.Val.{toZ}
@@ -30,8 +30,8 @@ use Rattle.plain.specs.declared.Event.{Event}
 use Rattle.plain.specs.declared.Asked.{Asked}
 use Rattle.plain.specs.Setup.{Setup, settingsIn, hereIn}
 use Rattle.plain.specs.Event.{State, After as Made, eventOutcome, makeOutcome}
-use Rattle.decimal.specs.Text.{text, behind, lineOf, Put, put, putText, putOf}
-use Rattle.decimal.proofs.Laws.{put-is, end-is, length-text, put-fits}
+use Rattle.decimal.specs.Text.{text, behind, lineOf, Put, putText, putOf}
+use Rattle.decimal.proofs.Laws.{length-text, put-fits}
 use Rattle.key.specs.Line.{askedBy}
 use Rattle.line.specs.declared.Ran.{Ran}
 use Rattle.line.specs.Sheet.{creditLines}
@@ -91,23 +91,6 @@ length-answered setup store state line = go (askedBy line)
     go (Asked.Of event) = let left = eventOutcome setup store state event in fit (getD (left .numbers) 0 (pos 0)) (left .state .run)
 
 -- ---- credits
-
--- the lines of the steps from a place on: that of the first, and those behind it
-credits-from : (credits : List ℕ) (i : ℕ) → i < length credits
-    → creditLines (i + 1) (drop i credits) ≡ creditLines (i + 1) (getD credits i 0 ∷ []) ++ creditLines (i + 1 + 1) (drop (i + 1) credits)
-unfolding creditLines
-credits-from credits i h = rw (drop-cons credits i 0 h, add-one i, append-nil)
-
-pub credits-turn : (out : List ℕ) (at i : ℕ) (credits : List ℕ) {out′ : List ℕ} {end : ℕ} → i < length credits
-    → put out′ end ≡ putText out at (creditLines (i + 1) (getD credits i 0 ∷ []))
-    → putText out′ end (creditLines (i + 1 + 1) (drop (i + 1) credits)) ≡ putText out at (creditLines (i + 1) (drop i credits))
-credits-turn out at i credits h g =
-    let one = creditLines (i + 1) (getD credits i 0 ∷ []) in
-    let rest = creditLines (i + 1 + 1) (drop (i + 1) credits) in
-    let both = credits-from credits i h in
-    put-is
-    (ap (λ (left : Put). sets (left .bytes) (left .end) rest) g ∙ sets-append one rest out at ∙ sym (ap (sets out at) both))
-    (omega (arith, end-is g, length-append one rest, ap length both))
 
 -- a line of credit is two numbers
 length-credit : (k credit : ℕ) → length (cond (eqb credit 0) [] (lineOf (pos k ∷ pos credit ∷ []))) ≤ 42

@@ -1,4 +1,4 @@
--- An input that comes in parts, and what a call leaves for each: what the functions of `line` promise.
+-- An input that comes in parts, and what a call leaves for each: what the functions of `line` and `credit_lines` promise.
 -- Assumes nothing.
 use Prim.Native.Nat.{ℕ, _+_, _*_}
 use mathlib.Core.Path.{_≡_}

@@ -1,8 +1,7 @@
 // The lines of the programs `sheet` and `credits`: run one after the other over one controller, an input that comes in parts.
 ghost use mathlib.Core.Path.{_≡_};
-ghost use Rattle.decimal.specs.Text.{put};
 ghost use Rattle.line.specs.Beside.{sheetOver};
-ghost use Rattle.line.specs.Part.{after, found, runOf, finishOf, Begun, creditsOf};
+ghost use Rattle.line.specs.Part.{after, found, runOf, finishOf, Begun};
 use crate::beside::sheet_config;
 use crate::lines::take;
 use crate::lines::take_line;
@@ -89,14 +88,4 @@ pub fn finish(bank: &[u8], store: &mut [u8], between: Between, out: &mut [u8]) -
         return ran;
     }
     take_line(bank, store, ran, out)
-}
-
-// The credits of a state: a line `k seconds` for each step whose credit is not 0, at the front of `out`.
-pub fn credits(state: State, out: &mut [u8]) -> usize
-    ensures { λ result. ⌜ put (now (out .exit)) result ≡ creditsOf (state .credits) (now (out .entry)) ⌝ }
-{
-    if out.len() < 4158 {
-        return 0;
-    }
-    text::put_credits(state, out)
 }

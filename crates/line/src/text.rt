@@ -1,15 +1,12 @@
-// The text of an answer, of a refusal and of the credits.
+// The text of an answer and of a refusal.
 ghost use mathlib.Core.Path.{_≡_};
-ghost use mathlib.Core.List.{[], _∷_};
 ghost use Prim.Native.Nat.{_+_, _≤_};
 ghost use lib.IntN.{pos};
 ghost use lib.ListN.{length};
 ghost use Rattle.decimal.specs.Text.{lineOf, put, putText};
 ghost use Rattle.line.specs.Beside.{sheetOver};
 ghost use Rattle.line.specs.Text.{eight};
-ghost use Rattle.line.specs.Sheet.{creditLines};
 ghost use Rattle.line.specs.Part.{refusalIn};
-use controller::State;
 use decimal::put_line;
 use plain::Run;
 use setting::Checked;
@@ -50,30 +47,4 @@ pub fn put_refusal(found: Checked, out: &mut [u8]) -> usize
     ];
     let count = refusal.count;
     put_line(out, 0, &numbers[..count])
-}
-
-// The line `k seconds` of a step whose credit is not 0, at a place of a buffer that has room for it. Gives the place where it ends.
-fn put_credit(out: &mut [u8], at: usize, k: u8, credit: u32) -> usize
-    requires { ⌜ at + 42 ≤ length (now out) ⌝ }
-    ensures { λ result. ⌜ put (now (out .exit)) result ≡ putText (now (out .entry)) at (creditLines k (credit ∷ [])) ⌝ }
-{
-    if credit == 0 {
-        return at;
-    }
-    put_line(out, at, &[k as i64, credit as i64])
-}
-
-// The lines of all steps, at the front of a buffer that has room for 99 of them.
-pub fn put_credits(state: State, out: &mut [u8]) -> usize
-    requires { ⌜ 4158 ≤ length (now out) ⌝ }
-    ensures { λ result. ⌜ put (now (out .exit)) result ≡ putText (now (out .entry)) 0 (creditLines 1 (state .credits)) ⌝ }
-{
-    let credits = state.credits;
-    let mut at: usize = 0;
-    let mut i: usize = 0;
-    while i < 99 {
-        at = put_credit(out, at, i as u8 + 1, credits[i]);
-        i += 1;
-    }
-    at
 }

@@ -2,7 +2,7 @@
 // bank prints its refusal's numbers and nothing more.
 fn main() {
     let mut buffer = io::buffer();
-    let loaded = terminal::load_bank(&mut buffer);
+    let loaded = files::load_bank(&mut buffer);
     if loaded.is_read {
         let size = loaded.size;
         terminal::run_bank(&buffer[..size], true);

@@ -1,10 +1,10 @@
--- `terminal::show` meets its contract.
+-- `files::show` meets its contract.
 -- Assumes nothing.
 use mathlib.Core.Bool.{false≢true}
 use borrow.Author.Needs.{needs}
 use Rattle.io.proofs.Counting.{front}
-use Rattle.terminal.proofs.show.Statement.{statement}
-use Rattle.terminal.proofs.show.Tie as tie
+use Rattle.files.proofs.show.Statement.{statement}
+use Rattle.files.proofs.show.Tie as tie
 
 returns : tie.Need-returns
 returns c = λ h. absurd (false≢true h)

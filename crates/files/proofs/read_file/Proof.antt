@@ -1,4 +1,4 @@
--- `terminal::read_file` is safe and ends. The invariant: the buffer keeps its length, and what was read fits it.
+-- `files::read_file` is safe and ends. The invariant: the buffer keeps its length, and what was read fits it.
 -- Assumes nothing.
 use Prim.Native.Nat.{ℕ, _≤_, _-_}
 use mathlib.Core.List.{List}
@@ -7,8 +7,8 @@ use native.Mathlib.Omega.{arith}
 use borrow.Author.Needs.{needs}
 use lib.ListN.{length}
 use Rattle.io.proofs.Counting.{counts}
-use Rattle.terminal.proofs.read_file.Statement.{statement}
-use Rattle.terminal.proofs.read_file.Tie as tie
+use Rattle.files.proofs.read_file.Statement.{statement}
+use Rattle.files.proofs.read_file.Tie as tie
 
 record Fits (buffer₀ buffer : List ℕ) (size : ℕ) : Type 0 where
   pub within : size ≤ length buffer

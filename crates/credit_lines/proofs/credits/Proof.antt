@@ -1,10 +1,10 @@
--- `line::credits` meets its contract.
+-- `credit_lines::credits` meets its contract.
 -- Assumes nothing.
 use borrow.Author.Needs.{needs}
 use borrow.Author.Tests.{lt-leb, le-leb}
 use Rattle.line.specs.Part.{creditsOf}
-use Rattle.line.proofs.credits.Statement.{statement}
-use Rattle.line.proofs.credits.Tie as tie
+use Rattle.credit_lines.proofs.credits.Statement.{statement}
+use Rattle.credit_lines.proofs.credits.Tie as tie
 
 returns : tie.Need-returns
 unfolding creditsOf

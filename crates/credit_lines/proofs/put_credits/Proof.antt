@@ -1,4 +1,4 @@
--- `line::text::put_credits` meets its contract. The invariant: the lines of the steps that are left, stored where they are due, give the whole, and
+-- `credit_lines::put_credits` meets its contract. The invariant: the lines of the steps that are left, stored where they are due, give the whole, and
 -- there is room for them. Assumes nothing.
 use Prim.Native.Nat.{ℕ, _+_, _*_, _-_, _≤_}
 use mathlib.Core.List.{List, [], _∷_}
@@ -8,10 +8,11 @@ use borrow.Author.Needs.{needs}
 use lib.ListN.{length, drop, getD, drop-of-length-le}
 use Rattle.decimal.specs.Text.{putText}
 use Rattle.decimal.proofs.Laws.{put-is, end-is}
 use Rattle.line.specs.Sheet.{creditLines}
-use Rattle.line.proofs.Laws.{credits-turn, length-credits}
-use Rattle.line.proofs.text.put_credits.Statement.{statement}
-use Rattle.line.proofs.text.put_credits.Tie as tie
+use Rattle.line.proofs.Laws.{length-credits}
+use Rattle.credit_lines.proofs.Turn.{credits-turn}
+use Rattle.credit_lines.proofs.put_credits.Statement.{statement}
+use Rattle.credit_lines.proofs.put_credits.Tie as tie
 
 record Due (out₀ credits out : List ℕ) (at i : ℕ) : Type 0 where
   pub within : i ≤ 99

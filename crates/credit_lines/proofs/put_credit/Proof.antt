@@ -1,4 +1,4 @@
--- `line::text::put_credit` meets its contract.
+-- `credit_lines::put_credit` meets its contract.
 -- Assumes nothing.
 use mathlib.Core.List.{[], _∷_, append-nil}
 use mathlib.Core.Path.{refl}
@@ -8,10 +8,10 @@ use borrow.Author.Tests.{eq-eqb, ne-eqb}
 use denote.Ref.{now}
 use lib.IntN.{pos}
 use Rattle.decimal.proofs.Laws.{put-is}
 use Rattle.line.specs.Sheet.{creditLines}
 use Rattle.line.proofs.Laws.{line-put, small}
-use Rattle.line.proofs.text.put_credit.Statement.{statement}
-use Rattle.line.proofs.text.put_credit.Tie as tie
+use Rattle.credit_lines.proofs.put_credit.Statement.{statement}
+use Rattle.credit_lines.proofs.put_credit.Tie as tie
 
 returns : tie.Need-returns
 unfolding creditLines
