@@ -23,8 +23,7 @@ use Rattle.plain.specs.Record.{alarmsIn, sized}
 use Rattle.plain.specs.Setup.{Setup, settingsIn, hereIn}
 use Rattle.plain.specs.Run.{movedTo, clearedBy, readableIn, tickBy, judging, judgedIn, tickCredit, tickSaves, commandCredit, returnRun}
 use Rattle.plain.specs.Refusals.{commandRows, commandMove, soundState}
-use Rattle.plain.specs.Event.{dark, after, unchanged, refused, accepted, tickEffect, cutEffect, returnEffect, broughtBack, retainedIn, knownEffect}
-use Rattle.plain.specs.Event.{eventEffect, makeOutcome}
+use Rattle.plain.specs.Event.{unchanged, refused, accepted, tickEffect, cutEffect, returnEffect, broughtBack, retainedIn, knownEffect, eventEffect}
 use Rattle.plain.specs.Replay.{Plain, tick, press, plainEffect}
 use Rattle.effect.specs.declared.Progress.{Progress}
 use Rattle.effect.specs.Done.{progressOf, withAlarms, IsSaving, acceptedDone, creditBy, alarmsBy, effectOf}
@@ -154,22 +153,3 @@ module _ (setup : Setup) (store : List ℕ) (power : Bool) (run : Run) (event : 
     pub event-known : eventEffect setup store power run event ≡ knownEffect setup store power run event
     unfolding eventEffect
     event-known = rw ok
-
--- ---- making
-
-module _ (setup : Setup) (store : List ℕ) where
-  -- 11 to 14
-  pub make-bank : passes (foundIn (setup .bank)) ≡ false → makeOutcome setup store ≡ after dark store (Answer.Bank (foundIn (setup .bank)))
-  unfolding makeOutcome
-  make-bank h = rw h
-
-  -- 22
-  pub make-buffer : foundIn (setup .bank) ≡ Accepted → sized store ≡ false → makeOutcome setup store ≡ after dark store (Answer.Refused Refusal.Buffer)
-  unfolding makeOutcome retainedIn
-  make-buffer ok z = rw (ok, z)
-
-  -- 41
-  pub make-setting : foundIn (setup .bank) ≡ Accepted → sized store ≡ true → allInRange (setup .config .alarms) ≡ false
-      → makeOutcome setup store ≡ after dark store (Answer.Refused Refusal.AlarmSetting)
-  unfolding makeOutcome retainedIn
-  make-setting ok whole wrong = rw (ok, whole, wrong)

@@ -21,12 +21,13 @@ use Rattle.plain.specs.Run.{shownIn, credited}
 use Rattle.plain.specs.Event.{State, After, after, recordFor, applied, knownEffect, eventOutcome, makeOutcome, eventsFrom}
 use Rattle.plain.specs.Listed.{askedEvents}
 use Rattle.plain.proofs.Standing.{view, Stands, stands-known, stands-next, stands-made, made, made-begins}
+use Rattle.making.specs.declared.Ran.{Ran}
+use Rattle.making.specs.Ran.{afterRan}
 use Rattle.effect.specs.declared.Done.{Done}
 use Rattle.effect.specs.declared.Moved.{Moved}
-use Rattle.effect.specs.declared.Ran.{Ran}
 use Rattle.effect.specs.Known.{saidAt, Known, Made}
 use Rattle.effect.specs.Done.{withAlarms, answerIn, creditIf, alarmsIf, effectOf, DoesTo}
-use Rattle.effect.specs.Ran.{stateFrom, afterRan}
+use Rattle.effect.specs.Ran.{stateFrom}
 
 -- ---- one event
 

@@ -7,8 +7,6 @@ use Prim.Native.Nat.{ℕ}
 use lib.ListN.{length}
 use Rattle.setting.specs.Setting.{settingsAt}
 use Rattle.setting.specs.declared.Settings.{Settings}
-use Rattle.setting.specs.declared.Checked.{Checked}
-use Rattle.bank.specs.Check.{foundIn}
 use Rattle.bank.specs.View.{placeOf}
 use Rattle.position.specs.declared.Position.{Position}
 use Rattle.position.specs.declared.Here.{Here}
@@ -23,7 +21,7 @@ use Rattle.plain.specs.Run.{shownIn}
 use Rattle.plain.specs.Refusals.{soundState}
 use Rattle.plain.specs.Event.{State}
 use Rattle.plain.proofs.Standing.{Stands}
-use Rattle.effect.specs.declared.Ran.{Ran}
+use Rattle.making.specs.declared.Ran.{Ran}
 
 -- what a bank says at a position, by its settings
 abbrev pub saidAt : List ℕ → Settings → Position → Here
@@ -43,11 +41,6 @@ pub record Sound (setup : Setup) (power : Bool) (run : Run) (settings : Settings
 -- and a record of its size
 pub record Ready (setup : Setup) (store : List ℕ) (power : Bool) (run : Run) (settings : Settings) (here : Here) : Type 0 where
   pub sound : Sound setup power run settings here
-  pub whole : sized store ≡ true
-
--- an accepted bank, and a record of its size
-pub record Begins (bank store : List ℕ) : Type 0 where
-  pub ok : foundIn bank ≡ Checked.Accepted
   pub whole : sized store ≡ true
 
 -- what is known within a list of events; `idle` says whether no tick moves the alarms

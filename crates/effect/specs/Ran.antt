@@ -1,37 +1,18 @@
--- What making and a list of events leave, as the code gives it.
+-- What the events of a list leave, as the code gives it.
 -- Assumes nothing.
 use mathlib.Core.Path.{_≡_}
-use mathlib.Core.Bool.{true}
 use mathlib.Core.List.{List, [], _∷_}
 use Prim.Native.Nat.{ℕ}
 use Rattle.setting.specs.declared.Settings.{Settings}
-use Rattle.alarm.specs.Alarm.{allInRange}
 use Rattle.alarm.specs.Idle.{allIdle}
-use Rattle.plain.specs.declared.Config.{Config}
-use Rattle.plain.specs.declared.Answer.{Answer}
 use Rattle.plain.specs.declared.Asked.{Asked}
-use Rattle.plain.specs.Setup.{Setup, over}
-use Rattle.plain.specs.Event.{State, After, after, dark, makeOutcome, eventsFrom}
+use Rattle.plain.specs.Setup.{Setup}
+use Rattle.plain.specs.Event.{State, After, after, eventsFrom}
 use Rattle.plain.specs.Listed.{askedEvents}
+use Rattle.making.specs.declared.Ran.{Ran}
 use Rattle.effect.specs.declared.Moved.{Moved}
-use Rattle.effect.specs.declared.Ran.{Ran}
 use Rattle.effect.specs.Known.{saidAt}
 use Rattle.effect.specs.Done.{withAlarms, answerBy, answerIn}
-
--- what a call leaves: state, record and answer
-abbrev pub ranState : Ran → State
-ranState ran = record { power = ran .power; run = ran .run; credits = ran .credits }
-
-abbrev pub afterRan : Ran → List ℕ → After
-afterRan ran store = after (ranState ran) store (ran .answer)
-
--- what making leaves, over every setup of a bank whose alarm settings are in range
-abbrev pub IsMade : List ℕ → List ℕ → After → Type 0
-IsMade bank store left = (config : Config) → allInRange (config .alarms) ≡ true → left ≡ makeOutcome (over bank config) store
-
--- the state with power off, and an answer
-abbrev pub darkRan : Answer → Ran
-darkRan answer = record { power = dark .power; run = dark .run; credits = dark .credits; answer = answer }
 
 -- what an event of a list moved, with the credits
 abbrev pub stateFrom : Moved → List ℕ → State

@@ -1,12 +1,9 @@
-// The credits, and the record.
+// The credits.
 ghost use mathlib.Core.Path.{_≡_};
-ghost use mathlib.Core.Bool.{true};
 ghost use lib.ListN.{length};
-ghost use Rattle.plain.specs.Record.{recordOf, creditsIn, sized};
+ghost use Rattle.plain.specs.Record.{creditsIn};
 ghost use Rattle.plain.specs.Run.{credited};
-use alarm::Alarms;
 use plain::Credit;
-use position::Position;
 use run::one_more;
 use run::place_of;
 
@@ -32,12 +29,4 @@ pub fn settle(credits: &mut [u32; 99], store: &[u8], credit: Credit)
             *credits = held;
         }
     }
-}
-
-// The record of a position, credits and alarms is written whole.
-pub fn save(store: &mut [u8], position: Position, credits: [u32; 99], alarms: Alarms)
-    requires { ⌜ sized (now store) ≡ true ⌝ }
-    ensures { λ _. ⌜ now (store .exit) ≡ recordOf (record { position = position; credits = credits; alarms = alarms }) ⌝ }
-{
-    checkpoint::write(store, position, credits, alarms);
 }

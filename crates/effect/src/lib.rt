@@ -1,25 +1,20 @@
-// What an event does to a run; making; and a list of events run from making on. Each call checks the bank.
+// What an event does to a run; and a list of events run from making on. Each call checks the bank.
 ghost use mathlib.Core.Path.{_≡_};
 ghost use Rattle.plain.specs.Setup.{over};
-ghost use Rattle.plain.specs.Event.{makeOutcome, final};
+ghost use Rattle.plain.specs.Event.{final};
 ghost use Rattle.plain.specs.Listed.{eventsIn};
-ghost use Rattle.effect.specs.Ran.{afterRan};
-use crate::begin::begin;
-use crate::begin::dark;
+ghost use Rattle.making.specs.Ran.{afterRan};
 pub use crate::events::event;
 use alarm::Alarms;
-use checkpoint::SIZE;
+use making::Ran;
 use measure::Measured;
 use plain::Answer;
 use plain::Config;
 use plain::Refusal;
-use plain::Run;
 use position::Here;
 use position::Position;
-use setting::Checked;
 
 mod answers;
-mod begin;
 mod beside;
 mod credits;
 mod events;
@@ -55,37 +50,12 @@ struct Moved {
     refusal: Refusal, // if the event is not accepted
 }
 
-// What a call leaves beside the record.
-pub struct Ran {
-    pub power: bool,
-    pub run: Run,
-    pub credits: [u32; 99],
-    pub answer: Answer,
-}
-
-// A controller is made: it is fresh, and saves.
-pub fn make(bank: &[u8], config: Config, store: &mut [u8]) -> Ran
-    ensures { λ result. ⌜ afterRan result (now (store .exit)) ≡ makeOutcome (over (now (bank .entry)) config) (now (store .entry)) ⌝ }
-{
-    let found = bank::check(bank);
-    let Checked::Accepted = found else {
-        return dark(Answer::Bank(found));
-    };
-    if store.len() != SIZE {
-        return dark(Answer::Refused(Refusal::Buffer));
-    }
-    if !bounds::in_range(config.alarms) {
-        return dark(Answer::Refused(Refusal::AlarmSetting));
-    }
-    begin(bank, store)
-}
-
 // A controller is made, and a list of events, five bytes each, is run by it: what the last event leaves, or making if it is refused or there is
 // no event. The bank is checked once.
 pub fn run(bank: &[u8], config: Config, store: &mut [u8], bytes: &[u8]) -> Ran
     ensures { λ result. ⌜ afterRan result (now (store .exit)) ≡ final (over (now (bank .entry)) config) (now (store .entry)) (eventsIn (now (bytes .entry))) ⌝ }
 {
-    let made = make(bank, config, store);
+    let made = making::make(bank, config, store);
     let first = made.answer;
     let Answer::Accepted(_) = first else {
         return made;

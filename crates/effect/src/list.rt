@@ -4,10 +4,10 @@ ghost use mathlib.Core.Path.{_≡_};
 ghost use Rattle.plain.specs.Setup.{over};
 ghost use Rattle.plain.specs.Event.{eventsFrom};
 ghost use Rattle.plain.specs.Listed.{eventsIn};
+ghost use Rattle.making.specs.Ran.{afterRan};
 ghost use Rattle.effect.specs.Known.{Within, Made};
-ghost use Rattle.effect.specs.Ran.{stateFrom, ranBy, turnOf, afterMoved, afterRan, Told};
+ghost use Rattle.effect.specs.Ran.{stateFrom, ranBy, turnOf, afterMoved, Told};
 use crate::Moved;
-use crate::Ran;
 use crate::answers::answered;
 use crate::answers::by_parts;
 use crate::answers::here_after;
@@ -18,10 +18,10 @@ use crate::beside::credit_after;
 use crate::beside::is_bounded;
 use crate::beside::is_return;
 use crate::beside::keeps;
-use crate::credits::save;
 use crate::credits::settle;
 use crate::events::known;
 use listed::asked_at;
+use making::Ran;
 use plain::Asked;
 use plain::Config;
 use plain::Refusal;
@@ -71,7 +71,7 @@ fn turn(
     settle(credits, &store[..], credit);
     if done.saves {
         let saved = *credits;
-        save(store, position, saved, alarms);
+        checkpoint::write(store, position, saved, alarms);
     }
     Moved {
         power: done.power,

@@ -16,12 +16,13 @@ use Rattle.plain.specs.Setup.{over}
 use Rattle.plain.specs.Event.{after, eventsFrom}
 use Rattle.plain.specs.Listed.{askedAt, askedEvents, eventsIn}
 use Rattle.plain.proofs.Standing.{Stands, stands-sized, stands-long}
-use Rattle.effect.specs.Ran.{ranState, afterMoved, afterRan}
+use Rattle.making.specs.declared.Ran.{Ran}
+use Rattle.making.specs.Ran.{ranState, afterRan}
+use Rattle.effect.specs.Ran.{afterMoved}
 use Rattle.effect.specs.Known.{Known}
 use Rattle.effect.specs.Done.{withAlarms}
 use Rattle.effect.specs.declared.Moved.{Moved}
 use Rattle.effect.specs.declared.Progress.{Progress}
-use Rattle.effect.specs.declared.Ran.{Ran}
 use Rattle.effect.proofs.Laws.{said-in}
 use Rattle.effect.proofs.Walk.{Walked, turned, walked-all}
 use borrow.Author.Needs.{needs}

@@ -132,14 +132,8 @@ settle-requires c κs =
     let middle = c .before .before .before in
     middle .before .before .before .before .before .before .before .before .before .before .before .before .before .before .before .before .before .before .pre .long
 
-save-requires : tie.Need-save-requires
-save-requires c κs =
-    let middle = c .before .before .before .before .before .before .before in
-    let stands = middle .before .before .before .before .before .before .before .before .before .before .before .before .before .before .before .before .before .before .pre .stands in
-    stands-sized _ (stands .ok) _ _ (stands .standing)
-
 same-length : tie.Need-same-length
-same-length c = c .before .before .save .kept .0
+same-length c = c .before .before .write .kept .0
 
 returns-2 : tie.Need-returns-2
 unfolding eventsFrom
@@ -149,8 +143,9 @@ returns-2 c =
     let here-after = joined .before .before .before .here-after in
     let credit-after = c .before .before .before .before .before .before .before .before .before .credit-after in
     let settle = c .before .before .before .before .before .before .settle in
-    let saving = c .before .before .before .before .before .if3 in (
-      rw (asked .given .1) (moved-on joined _ _ (settle .ensures ∙ rw (credit-after .ensures)) (rw (saving .taken) (c .before .before .save .ensures))),
+    let saving = c .before .before .before .before .before .if3 in
+    let whole = ready (joined .before .before .before .before .before .before .before) .whole in (
+      rw (asked .given .1) (moved-on joined _ _ (settle .ensures ∙ rw (credit-after .ensures)) (rw (saving .taken, c .before .before .write .ensures, whole))),
       record { here-is = here-after .ensures; idle-is = idle-is joined },
     )
 
@@ -183,7 +178,7 @@ turn-spec =
     (λ c κs. search needs)
     (λ c κs. search needs)
     settle-requires
-    save-requires
+    (λ c κs. search needs)
     same-length
     returns-2
     (λ c. search needs)

@@ -1,4 +1,4 @@
--- `effect::make` meets its contract. Assumes nothing.
+-- `making::make` meets its contract. Assumes nothing.
 use mathlib.Core.Path.{_≡_, ap, sym, _∙_}
 use borrow.Author.Tests.{eq-eqb, ne-eqb, not-true, not-false}
 use denote.Ref.{now}
@@ -9,10 +9,10 @@ use Rattle.setting.specs.declared.Checked.{Checked}
 use Rattle.bank.specs.Check.{foundIn}
 use Rattle.plain.specs.Record.{creditWidths, widthsOf, sized}
 use Rattle.plain.specs.Setup.{over}
-use Rattle.effect.proofs.Rows.{make-bank, make-buffer, make-setting}
+use Rattle.making.proofs.Rows.{make-bank, make-buffer, make-setting}
 use borrow.Author.Needs.{needs}
-use Rattle.effect.proofs.make.Statement.{statement}
-use Rattle.effect.proofs.make.Tie as tie
+use Rattle.making.proofs.make.Statement.{statement}
+use Rattle.making.proofs.make.Tie as tie
 
 -- the bank is accepted
 ok : (c : tie.After-enum-told) → foundIn (now (c .before .before .before .before .before .args .bank)) ≡ Checked.Accepted

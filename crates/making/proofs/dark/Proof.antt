@@ -1,9 +1,9 @@
--- `effect::begin::dark` meets its contract. Assumes nothing.
+-- `making::dark` meets its contract. Assumes nothing.
 use mathlib.Core.Path.{refl}
 use Rattle.plain.specs.Event.{dark}
 use borrow.Author.Needs.{needs}
-use Rattle.effect.proofs.begin.dark.Statement.{statement}
-use Rattle.effect.proofs.begin.dark.Tie as tie
+use Rattle.making.proofs.dark.Statement.{statement}
+use Rattle.making.proofs.dark.Tie as tie
 
 dark-run-requires : tie.Need-dark-run-requires
 dark-run-requires c κs = search needs

@@ -1,7 +1,7 @@
--- `effect::begin::fresh_run` meets its contract. Assumes nothing.
+-- `making::fresh_run` meets its contract. Assumes nothing.
 use borrow.Author.Needs.{needs}
-use Rattle.effect.proofs.begin.fresh_run.Statement.{statement}
-use Rattle.effect.proofs.begin.fresh_run.Tie as tie
+use Rattle.making.proofs.fresh_run.Statement.{statement}
+use Rattle.making.proofs.fresh_run.Tie as tie
 
 cleared-requires : tie.Need-cleared-requires
 cleared-requires c κs = search needs

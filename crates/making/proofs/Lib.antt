@@ -1,0 +1,2 @@
+-- The laws that the proofs of `making` cite.
+pub mod Rows

@@ -1,0 +1,2 @@
+-- What making asks, and what it leaves.
+pub mod Ran
