@@ -162,7 +162,9 @@ return-done setup store reading ok whole readable inside =
 -- and not every record is readable: none is whose flags or counts are out of their bounds, whatever its position
 pub alarms-unreadable : (setup : Setup) (run : Run) → allBounded (setup .config .alarms) (run .position .mode) (run .alarms) ≡ false → readableIn setup run ≡ false
 unfolding all both
-alarms-unreadable setup run out = rw out (never (readableOf (settingsIn setup) (hereIn setup (run .position)) (run .position)))
+alarms-unreadable setup run out =
+    let placed = readableOf (settingsIn setup) (hereIn setup (run .position)) (run .position) in
+    ap (λ (test : Bool). all (placed ∷ test ∷ [])) out ∙ never placed
 
 -- no answer is constant: an accepted one carries the set value and the signals of the run that is left
 pub carries : (setup : Setup) (credit : Credit) (saves : Bool) (run : Run)

@@ -12,9 +12,11 @@ use Rattle.bank.specs.Check.{foundIn}
 use Rattle.plain.specs.Record.{creditWidths, widthsOf}
 use Rattle.plain.specs.Setup.{over}
 use Rattle.plain.specs.Answer.{isAccepted}
+use Rattle.plain.specs.Event.{makeOutcome}
 use Rattle.plain.proofs.Cases.{is-refused}
 use Rattle.calls.specs.Carried.{stateSize, roomy, carriedOut}
 use Rattle.calls.proofs.Written.{make-bank-first, make-no-room, make-left}
+use Rattle.controller.specs.Holds.{after}
 use mathlib.Core.Bool.{true, false}
 use borrow.Author.Needs.{needs}
 use Rattle.carried.proofs.make.Statement.{statement}
@@ -30,6 +32,11 @@ unfolding roomy creditWidths widthsOf total
 no-room c =
     let start = c .before .before .before .before in
     ne-eqb (length (now (start .args .bytes))) stateSize (λ size. omega (arith, c .if1 .taken))
+
+-- what making a controller leaves, over the record
+left : (c : tie.After-make) → let a = c .before .before .before .before .before .before .args in
+    after (c .make .result .state) (c .make .last .1 .1 .0) (c .make .result .answer) ≡ makeOutcome (over (now (a .bank)) (a .config)) (now (a .store))
+left c = c .make .ensures
 
 returns : tie.Need-returns
 returns c =
@@ -50,23 +57,23 @@ returns-3 : tie.Need-returns-3
 unfolding carriedOut isAccepted
 returns-3 c =
     let start = c .before .before .before .before .before .before .before .before .before .before .before .before .before .before .before in
-    let make = c .before .before .before .before .before .before .before .before .before .make in
+    let at-make = c .before .before .before .before .before .before .before .before .before in
     let write = c .before .before .write in
     let enum-told2 = c .before .before .before .before .before .enum-told2 in
     let back11 = c .before .before .before .before .before .before .before .before .before .before .before in
     let a = start .args in
-    let made = ap (carriedOut (now (a .bytes))) (make .ensures) ∙ make-left (over (now (a .bank)) (a .config)) (now (a .store)) (now (a .bytes)) (room (back11)) in
+    let made = ap (carriedOut (now (a .bytes))) (left at-make) ∙ make-left (over (now (a .bank)) (a .config)) (now (a .store)) (now (a .bytes)) (room (back11)) in
     rw (write .ensures, room (back11)) (rw (ap isAccepted (enum-told2 .given .1)) at made)
 
 returns-4 : tie.Need-returns-4
 unfolding carriedOut
 returns-4 c =
     let start = c .before .before .before .before .before .before .before .before .before in
-    let make = c .before .before .before .make in
+    let at-make = c .before .before .before in
     let back5 = c .before .before .before .before .before in
     let a = start .args in
-    let made = ap (carriedOut (now (a .bytes))) (make .ensures) ∙ make-left (over (now (a .bank)) (a .config)) (now (a .store)) (now (a .bytes)) (room (back5)) in
-    rw (is-refused (make .result .answer) (c .match2 .keys2)) at made
+    let made = ap (carriedOut (now (a .bytes))) (left at-make) ∙ make-left (over (now (a .bank)) (a .config)) (now (a .store)) (now (a .bytes)) (room (back5)) in
+    rw (is-refused (at-make .make .result .answer) (c .match2 .keys2)) at made
 
 pub make-spec : {M : Type 1} → statement M
 make-spec =

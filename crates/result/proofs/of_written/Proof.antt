@@ -1,4 +1,5 @@
 -- `result::of_written` meets its contract. Assumes nothing.
+use mathlib.Core.Path.{refl}
 use native.Mathlib.Omega.{arith}
 use Rattle.calls.specs.Result.{packed}
 use Rattle.writer.specs.Write.{writtenNumbers}
@@ -16,7 +17,7 @@ returns-2 c = rw (c .before .before .written2 .given .1) (c .of-checked .ensures
 
 returns-3 : tie.Need-returns-3
 unfolding packed writtenNumbers
-returns-3 c = rw (c .enum-told .given .1)
+returns-3 c = rw (c .enum-told .given .1) refl
 
 pub of-written-spec : {M : Type 1} → statement M
 of-written-spec =

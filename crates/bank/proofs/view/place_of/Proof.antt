@@ -1,7 +1,7 @@
 -- `bank::view::place_of` meets its contract.
 -- Assumes nothing.
 use Prim.Native.Nat.{ℕ, _+_}
-use mathlib.Core.Path.{sym, ap, _∙_}
+use mathlib.Core.Path.{_≡_, sym, ap, _∙_}
 use denote.Ref.{now}
 use Rattle.setting.proofs.Laws.{refused, passed}
 use Rattle.bank.proofs.Facts.{pattern-there, pattern-none, step-none}
@@ -31,12 +31,14 @@ returns-2 c =
     let start = c .before .before .before .before .before .before .before in
     let bank = now (start .args .bank) in
     let k = start .args .k in
-    let body = c .before .before .before .body-of .ensures in
+    let body-of = c .before .before .before .body-of in
+    let body = body-of .ensures in
     let pattern = sym (pattern-there bank (start .args .p) (passed (c .before .before .before .before .before .has-pattern .ensures) (c .before .before .before .before .if1 .left))) in
     let step = c .before .before .step-numbered .ensures
     ∙ (λ i. numbered noStep (tab (stepAt bank) 9 (body .at i + 2) (stepsIn (body .len i))) k)
     ∙ ap (λ (x : Pattern). numbered noStep (x .steps) k) pattern in
-    let count = c .before .byte .ensures ∙ ap (λ (x : ℕ). field 1 bank (x + 1)) (body .at) ∙ ap (λ (x : Pattern). x .count) pattern in
+    let second : c .before .byte .result ≡ field 1 bank (body-of .result .at + 1) = c .before .byte .ensures in
+    let count = second ∙ ap (λ (x : ℕ). field 1 bank (x + 1)) (body .at) ∙ ap (λ (x : Pattern). x .count) pattern in
     let runs = c .byte2 .ensures ∙ ap (field 1 bank) (body .at) ∙ ap (λ (x : Pattern). x .runs) pattern in
     λ i. record { step = step i; count = count i; runs = runs i }
 

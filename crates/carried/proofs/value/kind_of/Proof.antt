@@ -1,4 +1,5 @@
 -- `carried::value::kind_of` meets its contract. Assumes nothing.
+use mathlib.Core.Path.{refl}
 use Rattle.calls.specs.Carried.{kindOf}
 use borrow.Author.Needs.{needs}
 use Rattle.carried.proofs.value.kind_of.Statement.{statement}
@@ -18,19 +19,19 @@ enum-told-4 c = search needs
 
 returns : tie.Need-returns
 unfolding kindOf
-returns c = rw (c .enum-told .given .1)
+returns c = rw (c .enum-told .given .1) refl
 
 returns-2 : tie.Need-returns-2
 unfolding kindOf
-returns-2 c = rw (c .enum-told2 .given .1)
+returns-2 c = rw (c .enum-told2 .given .1) refl
 
 returns-3 : tie.Need-returns-3
 unfolding kindOf
-returns-3 c = rw (c .enum-told3 .given .1)
+returns-3 c = rw (c .enum-told3 .given .1) refl
 
 returns-4 : tie.Need-returns-4
 unfolding kindOf
-returns-4 c = rw (c .enum-told4 .given .1)
+returns-4 c = rw (c .enum-told4 .given .1) refl
 
 pub kind-of-spec : {M : Type 1} → statement M
 kind-of-spec =

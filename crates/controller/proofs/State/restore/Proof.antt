@@ -1,11 +1,12 @@
 -- `controller::State::restore` meets its contract. Assumes nothing.
-use mathlib.Core.Path.{refl, sym, subst}
+use mathlib.Core.Path.{_≡_, refl, sym, subst}
 use mathlib.Core.Logic.{⊎-elim}
 use denote.Ref.{now}
 use Rattle.plain.specs.declared.Event.{Event}
 use Rattle.plain.specs.Setup.{over}
 use Rattle.plain.specs.Run.{credited}
 use Rattle.plain.proofs.Effects.{asks}
+use Rattle.controller.specs.declared.State.{State}
 use Rattle.controller.proofs.Laws.{not-restored, Settled, saved, not-saved}
 use borrow.Author.Needs.{needs}
 use Rattle.controller.proofs.State.restore.Statement.{statement}
@@ -21,8 +22,10 @@ settled c =
     let asked = asks (over (now (start .args .bank)) (start .args .config)) (now (start .args .store)) (start .args .self .run) (start .args .self .power) (Event.Return (start .args .reading)) in
     let leaves = Settled (now (start .args .store)) (start .args .self) (effect .result) in
     ⊎-elim
-    (λ way. subst leaves (sym (way .4))
-    (record { power = refl; run = refl; credits = rw (way .1 .given .1) (way .3 .ensures) }))
+    (λ way.
+    let next : State = record { power = effect .result .power; run = effect .result .run; credits = way .3 .result } in
+    let left : c .match .self ≡ next = way .4 in
+    subst leaves (sym left) (record { power = refl; run = refl; credits = rw (way .1 .given .1) (way .3 .ensures) }))
     (λ way. subst leaves (sym (way .1))
     (record { power = refl; run = refl; credits = sym (not-restored _ _ (effect .result .credit) (start .args .reading) (way .0 .keys2) (rw (effect .ensures) asked)) }))
     (c .match .came)

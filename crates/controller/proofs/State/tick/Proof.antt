@@ -3,12 +3,13 @@ use mathlib.Core.Path.{_≡_, refl, sym, subst}
 use mathlib.Core.Logic.{⊎-elim}
 use denote.Ref.{now}
 use native.Mathlib.Omega.{arith}
-use lib.ListN.{length}
+use lib.ListN.{length, set}
 use Rattle.plain.specs.declared.Event.{Event}
 use Rattle.plain.specs.Setup.{over}
 use Rattle.plain.specs.Run.{cooked, credited}
 use Rattle.plain.proofs.Effects.{asks}
 use Rattle.effect.proofs.Laws.{set-past}
+use Rattle.controller.specs.declared.State.{State}
 use Rattle.controller.proofs.Laws.{not-cooked, Settled, saved, not-saved}
 use borrow.Author.Needs.{needs}
 use Rattle.controller.proofs.State.tick.Statement.{statement}
@@ -28,8 +29,11 @@ settled c =
     let asked = asks (over (now (start .args .bank)) (start .args .config)) (now (start .args .store)) (start .args .t1 .run) (start .args .t1 .power) (Event.Tick (start .args .reading)) in
     let leaves = Settled (now (start .args .store)) (start .args .t1) (effect .result) in
     ⊎-elim
-    (λ way. subst leaves (sym (way .7))
-    (record { power = refl; run = refl; credits = rw (way .1 .given .1, way .6 .ensures, way .3 .ensures) refl }))
+    (λ way.
+    let credits = set (start .args .t1 .credits) (way .3 .result) (way .6 .result) in
+    let next : State = record { power = effect .result .power; run = effect .result .run; credits = credits } in
+    let left : c .match .self ≡ next = way .7 in
+    subst leaves (sym left) (record { power = refl; run = refl; credits = rw (way .1 .given .1, way .6 .ensures, way .3 .ensures) refl }))
     (⊎-elim
     (λ way. subst leaves (sym (way .5))
     (record { power = refl; run = refl; credits = rw (way .1 .given .1) (sym (set-past (start .args .t1 .credits) _ _ (omega (arith, long start, way .4 .left, way .3 .ensures)))) }))
