@@ -1,5 +1,5 @@
 -- `effect::beside::alarms_by` meets its contract. Assumes nothing.
-use mathlib.Core.Path.{_≡_}
+use mathlib.Core.Path.{_≡_, refl}
 use mathlib.Core.Bool.{cond}
 use denote.Ref.{now}
 use Rattle.position.specs.Command.{isStart}
@@ -55,7 +55,7 @@ returns-3 c = rw (c .before .enum-told2 .given .1) (c .cleared .ensures)
 returns-4 : tie.Need-returns-4
 returns-4 c =
     let read : c .before .read-alarms .result ≡ alarmsIn (now (c .before .before .before .before .before .before .args .store)) = c .before .read-alarms .ensures in
-    rw (c .before .before .enum-told3 .given .1, c .kept-in2 .ensures, read)
+    rw (c .before .before .enum-told3 .given .1, c .kept-in2 .ensures, read) refl
 
 pub alarms-by-spec : {M : Type 1} → statement M
 alarms-by-spec =
