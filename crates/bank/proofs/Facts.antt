@@ -15,7 +15,7 @@ use mir.Val.{toZ}
 use Rattle.field.specs.Field.{field, signedField}
 use Rattle.field.proofs.Laws.{field-past}
 use Rattle.setting.specs.Range.{between}
-use Rattle.bank.specs.Capacity.{capacityOf}
+use Rattle.capacity.specs.Capacity.{capacityOf}
 use Rattle.bank.specs.View.{Pattern, offsetOf, lengthOf, stepsIn, patternAt, patternsOf, patternOf, stepOf, stepAt, numbered, noStep, noPattern}
 use Rattle.setting.specs.Setting.{settingsAt}
 use Rattle.field.specs.Tab.{tab}

@@ -1,6 +1,3 @@
 -- What is known of an accepted bank, and the laws that the proofs of `bank` cite.
-pub mod Table
 pub mod Walk
 pub mod Facts
-pub mod Longest
-pub mod Front

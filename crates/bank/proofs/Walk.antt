@@ -17,7 +17,7 @@ use Rattle.bank.specs.Pair.{Gives, Halves}
 use Rattle.bank.specs.declared.pair.Extent.{Extent}
 use lib.IntN.{ℤ}
 use Rattle.setting.specs.Range.{both}
-use Rattle.bank.specs.Capacity.{capacityOf}
+use Rattle.capacity.specs.Capacity.{capacityOf}
 use Rattle.bank.specs.View.{offsetOf, lengthOf, stepsIn, stepAt, patternAt}
 use Rattle.field.specs.Tab.{tab}
 use Rattle.setting.specs.Found.{test, then}

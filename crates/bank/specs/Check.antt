@@ -7,7 +7,7 @@ use lib.Dec.{leb, eqb}
 use lib.ListN.{length, getD}
 use lib.IntN.{ℤ}
 use Rattle.setting.specs.Range.{both, within}
-use Rattle.bank.specs.Capacity.{capacityOf}
+use Rattle.capacity.specs.Capacity.{capacityOf}
 use Rattle.bank.specs.View.{Pattern, offsetOf, lengthOf, stepsIn, patternsOf}
 use Rattle.setting.specs.Found.{test, then}
 use Rattle.setting.specs.Setting.{settingsAt, settingsIn}

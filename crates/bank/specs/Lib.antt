@@ -1,5 +1,4 @@
 -- The definitions that the contracts of `bank` cite, in the order of the document.
-pub mod Capacity
 pub mod View
 pub mod Pair
 pub mod Check

@@ -1,7 +1,6 @@
 // The bank of patterns: its check, and what it says of one pattern or step. A read past the end of a bank gives 0, so no
 // function here asks anything of its caller.
 ghost use mathlib.Core.Path.{_≡_};
-ghost use Rattle.bank.specs.Capacity.{capacityOf};
 ghost use Rattle.setting.specs.Found.{numbersOf};
 ghost use Rattle.bank.specs.Check.{foundIn};
 pub use crate::body::check_step;
@@ -26,22 +25,6 @@ pub struct Place {
     pub step: Step,
     pub count: u8,
     pub runs: u8,
-}
-
-// Steps per pattern, by the number of patterns.
-const CAPACITY: [u8; 15] = [99, 49, 33, 24, 19, 16, 14, 12, 11, 9, 9, 8, 7, 7, 6];
-
-// The most steps that a pattern can have, with n patterns; 0 where n is not 1 to 15.
-pub fn capacity(n: u8) -> u8
-    ensures { λ result. ⌜ result ≡ capacityOf n ⌝ }
-{
-    if n < 1 {
-        return 0;
-    }
-    if 15 < n {
-        return 0;
-    }
-    CAPACITY[n as usize - 1]
 }
 
 // The check of a bank: the first wrong field, in the order of the document.

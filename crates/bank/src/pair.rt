@@ -7,7 +7,7 @@ ghost use Rattle.setting.specs.Range.{between};
 ghost use Rattle.bank.specs.View.{stepsIn};
 ghost use Rattle.bank.specs.Check.{pairRight, pairsFound};
 ghost use Rattle.bank.specs.Pair.{Gives, Halves, InReach};
-use crate::capacity;
+use capacity::capacity;
 use field::byte;
 use field::join4;
 use field::long;

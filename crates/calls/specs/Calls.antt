@@ -13,8 +13,8 @@ use Rattle.setting.specs.Setting.{settingsAt}
 use Rattle.setting.specs.Found.{unless, numbersOf as bankNumbers}
 use Rattle.bank.specs.View.{stepAt}
 use Rattle.bank.specs.Check.{foundIn}
-use Rattle.writer.specs.declared.Patterns.{Patterns}
-use Rattle.writer.specs.Write.{After as Wrote, writeOf}
+use Rattle.arrays.specs.declared.Patterns.{Patterns}
+use Rattle.arrays.specs.Write.{After as Wrote, writeOf}
 use Rattle.position.specs.Tests.{both}
 use Rattle.alarm.specs.Alarm.{allInRange}
 use Rattle.plain.specs.declared.Config.{Config}

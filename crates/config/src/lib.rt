@@ -5,8 +5,8 @@ ghost use Rattle.calls.specs.Config.{alarmSettingAt, configAt, configIn};
 use alarm::AlarmSetting;
 use alarm::AlarmSettings;
 use field::byte;
-use field::signed;
 use field::word;
+use integer::signed;
 use plain::Config;
 
 // How many bytes they take.

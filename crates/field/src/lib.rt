@@ -2,9 +2,9 @@
 ghost use mathlib.Core.Path.{_≡_};
 ghost use Prim.Native.Nat.{_+_, _*_, _≤_};
 ghost use lib.ListN.{length};
-ghost use mir.Syntax.{w16, w32};
-ghost use mir.Val.{toZ, ofZ};
-ghost use Rattle.field.specs.Field.{field, signedField};
+ghost use mir.Syntax.{w16};
+ghost use mir.Val.{toZ};
+ghost use Rattle.field.specs.Field.{field};
 
 // The numbers whose bytes these are.
 pub fn join2(low: u8, high: u8) -> u16
@@ -78,7 +78,7 @@ pub fn quad(buffer: &[u8], at: usize) -> u64
     0
 }
 
-// The signed numbers whose bits these are.
+// The signed number whose bits these are.
 pub fn signed_of(x: u16) -> i16
     ensures { λ result. ⌜ result ≡ toZ w16 x ⌝ }
 {
@@ -86,39 +86,5 @@ pub fn signed_of(x: u16) -> i16
         x as i16
     } else {
         !((65535 - x) as i16)
-    }
-}
-
-fn signed_long_of(x: u32) -> i32
-    ensures { λ result. ⌜ result ≡ toZ w32 x ⌝ }
-{
-    if x < 2147483648 {
-        x as i32
-    } else {
-        !((4294967295 - x) as i32)
-    }
-}
-
-// The signed numbers at an offset, of 16 and of 32 bits.
-pub fn signed(buffer: &[u8], at: usize) -> i16
-    ensures { λ result. ⌜ result ≡ signedField w16 (now (buffer .entry)) at ⌝ }
-{
-    signed_of(word(buffer, at))
-}
-
-pub fn signed_long(buffer: &[u8], at: usize) -> i32
-    ensures { λ result. ⌜ result ≡ signedField w32 (now (buffer .entry)) at ⌝ }
-{
-    signed_long_of(long(buffer, at))
-}
-
-// The 16 bits of a signed number.
-pub fn bits(x: i16) -> u16
-    ensures { λ result. ⌜ result ≡ ofZ w16 x ⌝ }
-{
-    if x >= 0 {
-        x as u16
-    } else {
-        65535 - ((!x) as u16)
     }
 }

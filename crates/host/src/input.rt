@@ -5,10 +5,10 @@ ghost use Rattle.field.specs.Field.{field};
 ghost use Rattle.field.specs.Tab.{tab};
 ghost use Rattle.bank.specs.View.{stepAt};
 ghost use Rattle.calls.specs.Calls.{patternsFrom};
+use arrays::Patterns;
 use bank::Step;
 use bank::step_at;
 use field::byte;
-use writer::Patterns;
 
 // Fifteen bytes, two apart.
 fn each_second(pairs: &[u8], at: usize) -> [u8; 15]

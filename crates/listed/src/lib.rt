@@ -2,7 +2,7 @@
 ghost use mathlib.Core.Path.{_≡_};
 ghost use Rattle.plain.specs.Listed.{eventOfKind, askedAt, formed};
 use field::byte;
-use field::signed_long;
+use integer::signed_long;
 use measure::Reading;
 use plain::Asked;
 use plain::Event;

@@ -16,7 +16,7 @@ use Rattle.setting.specs.Found.{test, then}
 use Rattle.setting.specs.Setting.{settingsAt, firstOf, headFound, halvesFound, settingsFound}
 use Rattle.setting.specs.declared.Checked.the-variants.{Accepted, Setting}
 use Rattle.setting.proofs.Laws.{both-left, both-right, on, first-right}
-use Rattle.bank.specs.Capacity.{capacityOf}
+use Rattle.capacity.specs.Capacity.{capacityOf}
 use Rattle.bank.specs.View.{numbered as entry, patternOf, stepOf, placeOf, noPattern, noStep}
 use Rattle.bank.specs.Check.{stepRight, foundIn}
 use Rattle.bank.specs.declared.Step.{Step}

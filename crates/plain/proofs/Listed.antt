@@ -16,7 +16,7 @@ use mir.Val.{SFits, ofZ}
 use Rattle.field.specs.Field.{num, field, signedField, digits}
 use Rattle.field.specs.Tab.{tab}
 use Rattle.field.proofs.Laws.{length-digits, signed-at}
-use Rattle.bank.proofs.Table.{at as in-table}
+use Rattle.capacity.proofs.Table.{at as in-table}
 use Rattle.measure.specs.declared.Reading.{Reading}
 use Rattle.position.specs.Tests.{both, all}
 use Rattle.position.specs.declared.Command.{Command}

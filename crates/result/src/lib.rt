@@ -4,15 +4,15 @@ ghost use mathlib.Core.Bool.{cond};
 ghost use Prim.Native.Nat.{_+_, _*_};
 ghost use Rattle.setting.specs.Found.{numbersOf as bankNumbers};
 ghost use Rattle.plain.specs.declared.Answer.{Answer};
-ghost use Rattle.writer.specs.Write.{writtenNumbers};
+ghost use Rattle.arrays.specs.Write.{writtenNumbers};
 ghost use Rattle.calls.specs.Result.{packed, signalBits, resultOf};
 use answer::Numbers;
-use field::bits;
+use arrays::Written;
+use integer::bits;
 use plain::Answer;
 use position::Shown;
 use position::Signals;
 use setting::Checked;
-use writer::Written;
 
 // A number and its values.
 fn packed_of(numbers: Numbers) -> u64

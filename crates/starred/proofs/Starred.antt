@@ -8,10 +8,10 @@ use Rattle.field.specs.Tab.{tab}
 use Rattle.setting.specs.Found.{numbersOf as bankNumbers, test, then}
 use Rattle.setting.specs.Range.{both as bothIn, between, within, temperature}
 use Rattle.setting.specs.Setting.{settingsAt, firstOf, headFound, halvesFound, settingsFound, settingsIn}
-use Rattle.bank.specs.Capacity.{capacityOf}
+use Rattle.capacity.specs.Capacity.{capacityOf}
 use Rattle.bank.specs.Check.{pairRight, pairsFrom, pairsFound, signalsRight, stepRight, stepsFound, bodiesFound, ofLength, foundIn}
 use Rattle.bank.specs.View.{stepAt, patternAt, patternsOf, noPattern, noStep, numbered as entry, patternOf, stepOf, placeOf}
-use Rattle.writer.specs.Encode.{paired, stepsBytes, bodiesBytes, pairsBytes, encode}
+use Rattle.arrays.specs.Encode.{paired, stepsBytes, bodiesBytes, pairsBytes, encode}
 use Rattle.measure.specs.Filter.{lagged, kept, afterOf, firstOf as firstReading, within as inRange, nearest, wholeOf, soundOf, outsideOf}
 use Rattle.position.specs.Tests.{either, all, zeroZ, apart, numbered as ordinal}
 use Rattle.position.specs.Program.{limitOf, hereOf, active, toward, rampOf, setValueOf, nearOf, pastOf, inZoneOf, secondPosition, leavesOf}

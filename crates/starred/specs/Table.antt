@@ -9,11 +9,11 @@ use mathlib.Core.List.{List, [], _∷_, map}
 use lib.IntN.{ℤ, pos, negsuc}
 use lib.Ieee.{binary64, ofInt, toBits}
 use lib.ListN.{replicate, getD}
-use Rattle.bank.specs.Capacity.{capacityOf}
+use Rattle.capacity.specs.Capacity.{capacityOf}
 use Rattle.bank.specs.View.{Pattern}
 use Rattle.setting.specs.declared.Settings.{Settings}
 use Rattle.bank.specs.declared.Step.{Step}
-use Rattle.writer.specs.Encode.{encode}
+use Rattle.arrays.specs.Encode.{encode}
 use Rattle.measure.specs.Filter.{afterOf, wholeOf}
 use Rattle.measure.specs.declared.Measured.{Measured}
 use Rattle.measure.specs.declared.Reading.{Reading}

@@ -1,13 +1,2 @@
--- A bank written is read back, an accepted one is written again as it was; the laws that the proofs of `writer` cite.
-pub mod Views
-pub mod Copied
-pub mod Taken
-pub mod Sizes
-pub mod Values
-pub mod Answers
+-- A law that the proofs of `writer` cite.
 pub mod Rows
-pub mod Back
-pub mod Found
-pub mod Again
-pub mod Laid
-pub mod Round

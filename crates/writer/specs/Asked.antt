@@ -4,17 +4,10 @@ use Prim.Native.Nat.{ℕ, _+_, _*_, _≤_}
 use mathlib.Core.Path.{_≡_}
 use mathlib.Core.List.{List}
 use lib.ListN.{length}
-use Rattle.field.specs.Field.{field}
 use Rattle.setting.specs.declared.Settings.{Settings}
 use Rattle.setting.specs.declared.Checked.the-variants.{Accepted}
-use Rattle.bank.specs.Check.{foundIn}
-use Rattle.writer.specs.declared.Patterns.{Patterns}
-use Rattle.writer.specs.Write.{takenOf, wrongIn}
-
--- an accepted bank, and its number of patterns
-pub record Counted (bank : List ℕ) (n : ℕ) : Type 0 where
-  pub ok : foundIn bank ≡ Accepted
-  pub count : n ≡ field 1 bank 0
+use Rattle.arrays.specs.declared.Patterns.{Patterns}
+use Rattle.arrays.specs.Write.{takenOf, wrongIn}
 
 -- settings and patterns that are right, and a buffer that reaches to where their part of the bank ends
 pub record Room (settings : Settings) (ps : Patterns) (end : ℕ) (out : List ℕ) : Type 0 where

@@ -1,5 +1,2 @@
--- The definitions that the contracts of `writer` cite.
-pub mod Read
-pub mod Encode
-pub mod Write
+-- What the functions of `writer` ask of each other.
 pub mod Asked

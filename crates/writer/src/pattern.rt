@@ -1,13 +1,13 @@
 // The patterns that a writer is handed: their check, and the number of their steps.
 ghost use mathlib.Core.Path.{_≡_};
 ghost use lib.ListN.{length};
-ghost use Rattle.writer.specs.Read.{allSteps};
+ghost use Rattle.arrays.specs.Read.{allSteps};
 ghost use Rattle.setting.specs.Setting.{settingsFound};
 ghost use Rattle.bank.specs.Check.{bodiesFound};
-ghost use Rattle.writer.specs.Write.{takenOf, withinCapacity, wrongIn};
-use crate::Patterns;
-use bank::capacity;
+ghost use Rattle.arrays.specs.Write.{takenOf, withinCapacity, wrongIn};
+use arrays::Patterns;
 use bank::check_step;
+use capacity::capacity;
 use setting::Checked;
 use setting::Settings;
 

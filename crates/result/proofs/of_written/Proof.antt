@@ -2,7 +2,7 @@
 use mathlib.Core.Path.{refl}
 use native.Mathlib.Omega.{arith}
 use Rattle.calls.specs.Result.{packed}
-use Rattle.writer.specs.Write.{writtenNumbers}
+use Rattle.arrays.specs.Write.{writtenNumbers}
 use borrow.Author.Needs.{needs}
 use Rattle.result.proofs.of_written.Statement.{statement}
 use Rattle.result.proofs.of_written.Tie as tie

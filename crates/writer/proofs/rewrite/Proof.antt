@@ -4,9 +4,9 @@ use mathlib.Core.Path.{sym, ap, _∙_}
 use denote.Ref.{now}
 use Rattle.setting.specs.declared.Checked.{Checked}
 use Rattle.setting.proofs.Laws.{accepted, is-refused}
-use Rattle.writer.specs.Write.{writeAs, rewriteOf}
-use Rattle.writer.proofs.Answers.{refused-as}
-use Rattle.writer.proofs.Round.{found-as, rewritten}
+use Rattle.arrays.specs.Write.{writeAs, rewriteOf}
+use Rattle.arrays.proofs.Answers.{refused-as}
+use Rattle.arrays.proofs.Round.{found-as, rewritten}
 use borrow.Author.Needs.{needs}
 use Rattle.writer.proofs.rewrite.Statement.{statement}
 use Rattle.writer.proofs.rewrite.Tie as tie

@@ -10,14 +10,14 @@ use Rattle.setting.specs.Setting.{settingsFound}
 use Rattle.setting.specs.declared.Checked.{Checked}
 use Rattle.setting.specs.declared.Checked.the-variants.{Accepted}
 use Rattle.setting.proofs.Laws.{numbers-tell, accepted, is-refused, ends, goes}
-use Rattle.writer.specs.declared.Written.the-variants.{Length}
-use Rattle.writer.specs.Read.{readOf}
-use Rattle.writer.specs.Encode.{encode}
-use Rattle.writer.specs.Write.{takenOf, wrongIn, after, writeAs, writeOf}
-use Rattle.writer.proofs.Values.{SettingsFit, settings-fit, PatternsFit, patterns-fit}
-use Rattle.writer.proofs.Answers.{refused-as, full-as, written-as, not-refused, not-full, same-length}
-use Rattle.writer.proofs.Found.{size-by}
-use Rattle.writer.proofs.Round.{reads-back}
+use Rattle.arrays.specs.declared.Written.the-variants.{Length}
+use Rattle.arrays.specs.Read.{readOf}
+use Rattle.arrays.specs.Encode.{encode}
+use Rattle.arrays.specs.Write.{takenOf, wrongIn, after, writeAs, writeOf}
+use Rattle.arrays.proofs.Values.{SettingsFit, settings-fit, PatternsFit, patterns-fit}
+use Rattle.arrays.proofs.Answers.{refused-as, full-as, written-as, not-refused, not-full, same-length}
+use Rattle.arrays.proofs.Found.{size-by}
+use Rattle.arrays.proofs.Round.{reads-back}
 use Rattle.writer.proofs.write.Statement.{statement}
 use Rattle.writer.proofs.write.Tie as tie
 

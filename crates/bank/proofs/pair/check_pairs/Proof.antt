@@ -9,7 +9,7 @@ use borrow.Author.Tests.{le-leb, lt-leb, eq-eqb, ne-eqb}
 use lib.ListN.{length}
 use Rattle.setting.proofs.Laws.{right, wrong, refused, passed}
 use Rattle.bank.proofs.Walk.{restPairs, pairs-start, pairs-more, pairs-end}
-use Rattle.bank.specs.Capacity.{capacityOf}
+use Rattle.capacity.specs.Capacity.{capacityOf}
 use Rattle.bank.specs.View.{offsetOf, lengthOf}
 use Rattle.bank.specs.Check.{pairRight, pairsFound}
 use Rattle.bank.proofs.pair.check_pairs.Statement.{statement}

@@ -14,7 +14,7 @@ use mir.Val.{toZ, ofZ}
 use mir.Facts.{toZ-ofZ}
 use borrow.Author.Tests.{leb-true, not-true, not-false}
 use Rattle.setting.specs.Range.{both}
-use Rattle.bank.specs.Capacity.{capacityOf}
+use Rattle.capacity.specs.Capacity.{capacityOf}
 use Rattle.setting.specs.Found.{test, then}
 use Rattle.bank.specs.Check.{stepRight, bodiesFound}
 use Rattle.setting.specs.declared.Settings.{Settings}
@@ -23,11 +23,11 @@ use Rattle.setting.specs.declared.Checked.{Checked}
 use Rattle.setting.specs.declared.Checked.the-variants.{Body}
 use Rattle.setting.proofs.Laws.{both-right, both-and, right, wrong, refused, passed, next, stop, settings-count}
 use Rattle.bank.proofs.Facts.{all-fit}
-use Rattle.writer.specs.declared.Patterns.{Patterns}
-use Rattle.writer.specs.Write.{takenOf, withinCapacity}
-use Rattle.writer.proofs.Copied.{grown}
-use Rattle.writer.proofs.Taken.{countAt, sumTo, sum-more, stepsLeft, steps-more, steps-end, patternsLeft, patterns-start, patterns-more, patterns-end}
-use Rattle.writer.proofs.Values.{SettingsFit, settings-fit, patterns-fit}
+use Rattle.arrays.specs.declared.Patterns.{Patterns}
+use Rattle.arrays.specs.Write.{takenOf, withinCapacity}
+use Rattle.arrays.proofs.Copied.{grown}
+use Rattle.arrays.proofs.Taken.{countAt, sumTo, sum-more, stepsLeft, steps-more, steps-end, patternsLeft, patterns-start, patterns-more, patterns-end}
+use Rattle.arrays.proofs.Values.{SettingsFit, settings-fit, patterns-fit}
 use borrow.Author.Needs.{needs}
 use Rattle.writer.proofs.pattern.check_patterns.Statement.{statement}
 use Rattle.writer.proofs.pattern.check_patterns.Tie as tie

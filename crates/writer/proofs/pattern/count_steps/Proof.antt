@@ -7,10 +7,10 @@ use native.Mathlib.Numerals.{add-one-le}
 use native.Mathlib.Omega.{arith}
 use lib.ListN.{length}
 use Rattle.bank.specs.View.{Pattern}
-use Rattle.writer.specs.Read.{allSteps}
-use Rattle.writer.proofs.Taken.{countAt, taken-all, Fit, fit-of, sumTo, sum-more, next-in}
-use Rattle.writer.proofs.Values.{patterns-fit}
-use Rattle.writer.proofs.Sizes.{length-all}
+use Rattle.arrays.specs.Read.{allSteps}
+use Rattle.arrays.proofs.Taken.{countAt, taken-all, Fit, fit-of, sumTo, sum-more, next-in}
+use Rattle.arrays.proofs.Values.{patterns-fit}
+use Rattle.arrays.proofs.Sizes.{length-all}
 use borrow.Author.Needs.{needs}
 use Rattle.writer.proofs.pattern.count_steps.Statement.{statement}
 use Rattle.writer.proofs.pattern.count_steps.Tie as tie

@@ -7,12 +7,12 @@ use native.Mathlib.Omega.{arith}
 use denote.Ref.{now}
 use lib.ListN.{length}
 use lib.Seq.{sets}
-use Rattle.writer.specs.Read.{allSteps}
-use Rattle.writer.specs.Encode.{pairsBytes, bodiesBytes}
-use Rattle.writer.specs.Write.{takenOf}
-use Rattle.writer.proofs.Values.{fours}
-use Rattle.writer.proofs.Sizes.{length-bodies, length-bank, bank-parts}
-use Rattle.writer.proofs.Taken.{length-taken}
+use Rattle.arrays.specs.Read.{allSteps}
+use Rattle.arrays.specs.Encode.{pairsBytes, bodiesBytes}
+use Rattle.arrays.specs.Write.{takenOf}
+use Rattle.arrays.proofs.Values.{fours}
+use Rattle.arrays.proofs.Sizes.{length-bodies, length-bank, bank-parts}
+use Rattle.arrays.proofs.Taken.{length-taken}
 use Rattle.writer.proofs.put.put_bank.Statement.{statement}
 use Rattle.writer.proofs.put.put_bank.Tie as tie
 

@@ -10,11 +10,11 @@ use denote.Ref.{now}
 use lib.ListN.{length}
 use lib.Seq.{sets}
 use Rattle.bank.specs.View.{Pattern}
-use Rattle.writer.specs.Encode.{bodiesBytes}
-use Rattle.writer.proofs.Views.{rest, rest-end}
-use Rattle.writer.proofs.Taken.{countAt, patternIn, taken-rest, Fit, fit-of, sumTo, sum-more, next-in}
-use Rattle.writer.proofs.Values.{patterns-fit}
-use Rattle.writer.proofs.Sizes.{bodies-size, bodies-turn}
+use Rattle.arrays.specs.Encode.{bodiesBytes}
+use Rattle.arrays.proofs.Views.{rest, rest-end}
+use Rattle.arrays.proofs.Taken.{countAt, patternIn, taken-rest, Fit, fit-of, sumTo, sum-more, next-in}
+use Rattle.arrays.proofs.Values.{patterns-fit}
+use Rattle.arrays.proofs.Sizes.{bodies-size, bodies-turn}
 use borrow.Author.Needs.{needs}
 use Rattle.writer.proofs.put.put_bodies.Statement.{statement}
 use Rattle.writer.proofs.put.put_bodies.Tie as tie

@@ -12,11 +12,11 @@ use lib.ListN.{length, take, drop}
 use lib.Seq.{sets}
 use Rattle.field.specs.Row.{row, total}
 use Rattle.bank.specs.declared.Step.{Step}
-use Rattle.writer.specs.Encode.{stepsBytes}
-use Rattle.writer.proofs.Views.{next-place}
+use Rattle.arrays.specs.Encode.{stepsBytes}
+use Rattle.arrays.proofs.Views.{next-place}
 use Rattle.writer.proofs.Rows.{row-put}
-use Rattle.writer.proofs.Taken.{part, part-start, part-end}
-use Rattle.writer.proofs.Sizes.{length-two, sets-then, steps-turn}
+use Rattle.arrays.proofs.Taken.{part, part-start, part-end}
+use Rattle.arrays.proofs.Sizes.{length-two, sets-then, steps-turn}
 use borrow.Author.Needs.{needs}
 use Rattle.writer.proofs.put.put_body.Statement.{statement}
 use Rattle.writer.proofs.put.put_body.Tie as tie

@@ -6,8 +6,8 @@ use denote.Ref.{now}
 use lib.ListN.{replicate}
 use mir.Syntax.{w16}
 use Rattle.field.specs.Row.{total}
-use Rattle.writer.proofs.Sizes.{paired-four}
-use Rattle.writer.proofs.Values.{Four, four-in}
+use Rattle.arrays.proofs.Sizes.{paired-four}
+use Rattle.arrays.proofs.Values.{Four, four-in}
 use Rattle.writer.proofs.Rows.{row-put}
 use Rattle.writer.proofs.put.put_halves.Statement.{statement}
 use Rattle.writer.proofs.put.put_halves.Tie as tie

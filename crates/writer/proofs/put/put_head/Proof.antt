@@ -5,8 +5,8 @@ use mathlib.Core.List.{[], _∷_}
 use denote.Ref.{now}
 use lib.ListN.{take}
 use Rattle.field.specs.Row.{total}
-use Rattle.writer.specs.Encode.{settingWidths}
-use Rattle.writer.proofs.Values.{SettingsFit, settings-fit}
+use Rattle.arrays.specs.Encode.{settingWidths}
+use Rattle.arrays.proofs.Values.{SettingsFit, settings-fit}
 use Rattle.writer.proofs.Rows.{row-put, bits-put}
 use Rattle.writer.proofs.put.put_head.Statement.{statement}
 use Rattle.writer.proofs.put.put_head.Tie as tie

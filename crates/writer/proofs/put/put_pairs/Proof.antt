@@ -11,12 +11,12 @@ use lib.ListN.{length}
 use lib.Seq.{sets}
 use Rattle.field.specs.Row.{total}
 use Rattle.bank.specs.View.{Pattern}
-use Rattle.writer.specs.Encode.{pairsBytes}
-use Rattle.writer.proofs.Views.{rest, rest-end, next-place}
+use Rattle.arrays.specs.Encode.{pairsBytes}
+use Rattle.arrays.proofs.Views.{rest, rest-end, next-place}
 use Rattle.writer.proofs.Rows.{row-put}
-use Rattle.writer.proofs.Taken.{countAt, patternIn, taken-rest, Fit, fit-of, sumTo, next-in}
-use Rattle.writer.proofs.Values.{patterns-fit}
-use Rattle.writer.proofs.Sizes.{pairs-turn}
+use Rattle.arrays.proofs.Taken.{countAt, patternIn, taken-rest, Fit, fit-of, sumTo, next-in}
+use Rattle.arrays.proofs.Values.{patterns-fit}
+use Rattle.arrays.proofs.Sizes.{pairs-turn}
 use borrow.Author.Needs.{needs}
 use Rattle.writer.proofs.put.put_pairs.Statement.{statement}
 use Rattle.writer.proofs.put.put_pairs.Tie as tie

@@ -7,10 +7,10 @@ use native.Mathlib.Omega.{arith}
 use denote.Ref.{now}
 use lib.ListN.{length, take, replicate}
 use Rattle.field.specs.Row.{total}
-use Rattle.writer.specs.Encode.{settingWidths, settingNumbers, paired}
+use Rattle.arrays.specs.Encode.{settingWidths, settingNumbers, paired}
 use Rattle.writer.proofs.Rows.{rows-put}
-use Rattle.writer.proofs.Sizes.{length-paired}
-use Rattle.writer.proofs.Values.{fours}
+use Rattle.arrays.proofs.Sizes.{length-paired}
+use Rattle.arrays.proofs.Values.{fours}
 use Rattle.writer.proofs.put.put_settings.Statement.{statement}
 use Rattle.writer.proofs.put.put_settings.Tie as tie
 

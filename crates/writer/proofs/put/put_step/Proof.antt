@@ -5,8 +5,8 @@ use mathlib.Core.List.{_∷_}
 use denote.Ref.{now}
 use lib.ListN.{drop}
 use Rattle.field.specs.Row.{total}
-use Rattle.writer.specs.Encode.{stepWidths, stepNumbers}
-use Rattle.writer.proofs.Values.{StepFits, step-fits}
+use Rattle.arrays.specs.Encode.{stepWidths, stepNumbers}
+use Rattle.arrays.proofs.Values.{StepFits, step-fits}
 use Rattle.writer.proofs.Rows.{row-put, bits-put}
 use Rattle.writer.proofs.put.put_step.Statement.{statement}
 use Rattle.writer.proofs.put.put_step.Tie as tie

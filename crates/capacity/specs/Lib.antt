@@ -1,0 +1,2 @@
+-- The definition that the contract of `capacity` cites.
+pub mod Capacity

@@ -1,0 +1,2 @@
+-- What the functions of `reader` ask of each other.
+pub mod Asked
