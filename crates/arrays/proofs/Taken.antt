@@ -15,7 +15,7 @@ use lib.ListN.{length, getD, take, drop}
 use lib.Seq.{drop-cons}
 use Rattle.field.specs.Tab.{tab}
 use Rattle.field.proofs.Tab.{length-tab, getD-tab}
-use Rattle.setting.specs.Range.{both}
+use Rattle.limits.specs.Range.{both}
 use Rattle.capacity.specs.Capacity.{capacityOf}
 use Rattle.bank.specs.View.{Pattern, noPattern}
 use Rattle.bank.specs.Check.{stepRight, stepsFound, bodiesFound}

@@ -14,7 +14,7 @@ use mir.Syntax.{w16}
 use mir.Val.{toZ}
 use Rattle.field.specs.Field.{field, signedField}
 use Rattle.field.proofs.Laws.{field-past}
-use Rattle.setting.specs.Range.{between}
+use Rattle.limits.specs.Range.{between}
 use Rattle.capacity.specs.Capacity.{capacityOf}
 use Rattle.bank.specs.View.{Pattern, offsetOf, lengthOf, stepsIn, patternAt, patternsOf, patternOf, stepOf, stepAt, numbered, noStep, noPattern}
 use Rattle.setting.specs.Setting.{settingsAt}

@@ -16,7 +16,7 @@ use Rattle.field.proofs.Tab.{length-tab}
 use Rattle.bank.specs.Pair.{Gives, Halves}
 use Rattle.bank.specs.declared.pair.Extent.{Extent}
 use lib.IntN.{ℤ}
-use Rattle.setting.specs.Range.{both}
+use Rattle.limits.specs.Range.{both}
 use Rattle.capacity.specs.Capacity.{capacityOf}
 use Rattle.bank.specs.View.{offsetOf, lengthOf, stepsIn, stepAt, patternAt}
 use Rattle.field.specs.Tab.{tab}

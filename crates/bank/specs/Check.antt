@@ -6,7 +6,7 @@ use mathlib.Core.List.{List, [], _∷_}
 use lib.Dec.{leb, eqb}
 use lib.ListN.{length, getD}
 use lib.IntN.{ℤ}
-use Rattle.setting.specs.Range.{both, within}
+use Rattle.limits.specs.Range.{both, within}
 use Rattle.capacity.specs.Capacity.{capacityOf}
 use Rattle.bank.specs.View.{Pattern, offsetOf, lengthOf, stepsIn, patternsOf}
 use Rattle.setting.specs.Found.{test, then}

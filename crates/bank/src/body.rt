@@ -4,7 +4,7 @@ ghost use Prim.Native.Nat.{_+_, _≤_};
 ghost use lib.Dec.{leb, eqb};
 ghost use lib.ListN.{length};
 ghost use Rattle.field.specs.Field.{field};
-ghost use Rattle.setting.specs.Range.{both};
+ghost use Rattle.limits.specs.Range.{both};
 ghost use Rattle.bank.specs.View.{stepAt, noStep, patternAt};
 ghost use Rattle.field.specs.Tab.{tab};
 ghost use Rattle.bank.specs.Check.{stepRight, pairsFound, bodiesFound, ofLength, foundIn};
@@ -17,9 +17,9 @@ use field::join2;
 use field::signed_of;
 use field::word;
 use integer::signed;
+use limits::in_limits;
 use setting::Checked;
 use setting::check_settings_in;
-use setting::in_limits;
 
 pub fn no_step() -> Step
     ensures { λ result. ⌜ result ≡ noStep ⌝ }

@@ -3,7 +3,7 @@ ghost use mathlib.Core.Path.{_≡_};
 ghost use Prim.Native.Nat.{_+_, _*_, _≤_};
 ghost use lib.ListN.{length};
 ghost use Rattle.field.specs.Field.{field};
-ghost use Rattle.setting.specs.Range.{between};
+ghost use Rattle.limits.specs.Range.{between};
 ghost use Rattle.bank.specs.View.{stepsIn};
 ghost use Rattle.bank.specs.Check.{pairRight, pairsFound};
 ghost use Rattle.bank.specs.Pair.{Gives, Halves, InReach};

@@ -1,4 +1,5 @@
-// Alarms cleared and kept, and whether they are within their bounds. Tests are joined by `&` and `|`, which have no branch.
+// Alarms cleared and kept, and whether they are within their bounds; whether their settings are in range. Tests are joined by `&` and `|`, which have
+// no branch.
 ghost use mathlib.Core.Path.{_≡_};
 ghost use Rattle.alarm.specs.Alarm.{allClear, keptIn, bounded, allBounded};
 ghost use Rattle.alarm.specs.Idle.{isClear, allAreClear};
@@ -6,6 +7,10 @@ use alarm::Alarm;
 use alarm::AlarmSetting;
 use alarm::AlarmSettings;
 use alarm::Alarms;
+
+mod range;
+
+pub use range::in_range;
 
 // Flags and counts cleared, as by a start.
 pub fn cleared() -> Alarms

@@ -42,7 +42,7 @@ pub fn run_with(
     ensures { λ result. ⌜ after result (now (store .exit)) (now (state .exit)) ≡ runOver (now (store .entry)) (now (state .entry)) (now (events .entry)) (over (now (bank .entry)) settings) ⌝ }
 {
     let fits = (state.len() == carried::SIZE) & (store.len() == checkpoint::SIZE);
-    if !(fits & alarm_range::in_range(settings.alarms)) {
+    if !(fits & bounds::in_range(settings.alarms)) {
         return misfit(bank, settings, &store[..], &state[..], events);
     }
     let ran = history::run(bank, settings, store, events);

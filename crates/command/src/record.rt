@@ -3,11 +3,11 @@ ghost use mathlib.Core.Path.{_≡_};
 ghost use mathlib.Core.Bool.{cond};
 ghost use Rattle.position.specs.Return.{goesOn, returnPosition, timesRight, clearedOf, readableOf};
 use crate::press::stopped;
+use limits::is_temperature;
 use measure::Whole;
 use position::Here;
 use position::Position;
 use setting::Settings;
-use setting::is_temperature;
 
 // Whether a run goes on after an outage, by the width.
 fn goes_on(settings: Settings, here: Here, value: Whole, position: Position) -> bool

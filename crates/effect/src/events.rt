@@ -127,7 +127,7 @@ pub fn event(
     if store.len() != SIZE {
         return unchanged(power, run, Answer::Refused(Refusal::Buffer));
     }
-    if !alarm_range::in_range(config.alarms) {
+    if !bounds::in_range(config.alarms) {
         return unchanged(power, run, Answer::Refused(Refusal::AlarmSetting));
     }
     let progress = progress_of(run);

@@ -14,7 +14,7 @@ use mir.Facts.{toZ-ofZ, toZ-pos}
 use lib.IntN.{ℤ, pos, negℤ, _-ℤ_, +ℤ-idl}
 use lib.ListN.{length, take, drop, getD, length-drop}
 use lib.Seq.{drop-cons, take-all}
-use Rattle.setting.specs.Range.{both, between}
+use Rattle.limits.specs.Range.{both, between}
 use Rattle.measure.specs.declared.Reading.{Reading}
 use Rattle.plain.specs.declared.Event.{Event}
 use Rattle.plain.specs.declared.Asked.{Asked}

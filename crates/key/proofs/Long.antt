@@ -9,7 +9,7 @@ use borrow.Author.Tests.{leb-true, leb-false, ne-eqb}
 use lib.Dec.{leb, eqb}
 use lib.ListN.{length, take, drop, getD, length-drop}
 use lib.Seq.{take-all, length-take-le}
-use Rattle.setting.specs.Range.{both}
+use Rattle.limits.specs.Range.{both}
 use Rattle.plain.specs.declared.Asked.{Asked}
 use Rattle.key.specs.declared.Number.{Number}
 use Rattle.key.specs.Line.{unsigned, negated, numberOf, isOnly, select, tick, return, tickOf, returnOf, valued, askedBy}

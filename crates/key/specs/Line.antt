@@ -6,7 +6,7 @@ use mathlib.Core.List.{List, [], _∷_}
 use lib.Dec.{eqb}
 use lib.IntN.{pos, negℤ}
 use lib.ListN.{length, getD, drop}
-use Rattle.setting.specs.Range.{both, between}
+use Rattle.limits.specs.Range.{both, between}
 use Rattle.measure.specs.declared.Reading.{Reading}
 use Rattle.position.specs.declared.Command.{Command}
 use Rattle.plain.specs.declared.Event.{Event}

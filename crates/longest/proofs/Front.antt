@@ -13,7 +13,7 @@ use lib.ListN.{length, take, getD}
 use lib.Seq.{getD-take, length-take-le}
 use Rattle.field.specs.Field.{field}
 use Rattle.field.proofs.Laws.{field-same}
-use Rattle.setting.specs.Range.{both}
+use Rattle.limits.specs.Range.{both}
 use Rattle.capacity.specs.Capacity.{capacityOf}
 use Rattle.setting.specs.Setting.{settingsAt}
 use Rattle.bank.specs.View.{offsetOf, lengthOf, stepsIn}

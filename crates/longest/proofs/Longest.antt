@@ -10,7 +10,7 @@ use borrow.Author.Tests.{eqb-true, leb-true}
 use lib.Dec.{leb}
 use lib.ListN.{length, replicate}
 use Rattle.field.specs.Field.{num, field, digits, signedField}
-use Rattle.setting.specs.Range.{both, between, within, temperature}
+use Rattle.limits.specs.Range.{both, between, within, temperature}
 use Rattle.capacity.specs.Capacity.{capacityOf}
 use Rattle.setting.specs.Setting.{settingsAt}
 use Rattle.bank.specs.View.{lengthOf, stepAt, patternAt, patternsOf}

@@ -85,7 +85,7 @@ pub fn make(bank: &[u8], config: Config, store: &mut [u8]) -> Ran
     if store.len() != SIZE {
         return dark(Answer::Refused(Refusal::Buffer));
     }
-    if !alarm_range::in_range(config.alarms) {
+    if !bounds::in_range(config.alarms) {
         return dark(Answer::Refused(Refusal::AlarmSetting));
     }
     begin(bank, store)

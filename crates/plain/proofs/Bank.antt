@@ -11,7 +11,7 @@ use lib.Dec.{leb, eqb}
 use lib.ListN.{length, getD}
 use Rattle.field.specs.Field.{field}
 use Rattle.field.specs.Tab.{tab}
-use Rattle.setting.specs.Range.{both, between, within, temperature}
+use Rattle.limits.specs.Range.{both, between, within, temperature}
 use Rattle.setting.specs.Found.{test, then}
 use Rattle.setting.specs.Setting.{settingsAt, firstOf, headFound, halvesFound, settingsFound}
 use Rattle.setting.specs.declared.Checked.the-variants.{Accepted, Setting}

@@ -7,7 +7,7 @@ use native.Mathlib.Omega.{arith}
 use borrow.Author.Tests.{lt-ltb, le-leb, ltb-false, leb-true, eqb-false, not-false}
 use lib.Dec.{eqb, ltb, leb}
 use lib.IntN.{ℤ, pos, negsuc, natAbs}
-use Rattle.setting.specs.Range.{both, within, temperature}
+use Rattle.limits.specs.Range.{both, within, temperature}
 use Rattle.setting.specs.declared.Checked.the-variants.{Accepted}
 use Rattle.setting.proofs.Laws.{both-left, both-right}
 use Rattle.bank.specs.View.{placeOf, patternOf}

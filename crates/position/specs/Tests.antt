@@ -6,7 +6,7 @@ use mathlib.Core.List.{List, [], _∷_}
 use lib.Dec.{eqb}
 use lib.IntN.{ℤ, natAbs, _-ℤ_}
 use lib.ListN.{getD}
-unfoldable pub use Rattle.setting.specs.Range.{both, within, temperature}
+unfoldable pub use Rattle.limits.specs.Range.{both, within, temperature}
 
 -- one of them holds
 unfoldable pub either : Bool → Bool → Bool

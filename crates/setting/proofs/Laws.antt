@@ -1,7 +1,7 @@
 -- Laws that several proofs of the crate cite.
 -- Assumes nothing.
 use mathlib.Core.Path.{_≡_, refl, sym, ap, _∙_}
-use mathlib.Core.Bool.{Bool, true, false, cond, not, true≢false, false≢true, _&&_}
+use mathlib.Core.Bool.{Bool, true, false, cond, not, true≢false, false≢true}
 use lib.IntN.{ℤ}
 use mir.Syntax.{w16}
 use mir.Val.{SFits, toZ, ofZ}
@@ -10,7 +10,8 @@ use Prim.Native.Nat.{ℕ, _<_, _≤_}
 use lib.Dec.{leb, eqb}
 use lib.ListN.{getD}
 use mir.Facts.{toZ-ofZ}
-use Rattle.setting.specs.Range.{both, between, within}
+use Rattle.limits.specs.Range.{between, within}
+pub use Rattle.limits.proofs.Laws.{on, off, both-and, both-left, both-right}
 use Rattle.setting.specs.Found.{isAccepted, unless, test, then, numbersOf}
 use Rattle.setting.specs.Setting.{firstOf, headFound, settingsFound}
 use Rattle.setting.specs.declared.Settings.{Settings}
@@ -40,14 +41,6 @@ pub within-bits : {low x high : ℤ} → SFits w16 low → SFits w16 x → SFits
 within-bits {low} {x} {high} l m h = λ i. within (toZ-ofZ l i) (toZ-ofZ m i) (toZ-ofZ h i)
 
 -- a chain of tests, one test at a time: it holds and the chain goes on, or it ends the chain
-pub on : {a other : Bool} → a ≡ true → both a other ≡ other
-unfolding both
-on same = rw same
-
-pub off : {a : Bool} (other : Bool) → a ≡ false → both a other ≡ false
-unfolding both
-off other same = rw same
-
 pub right : {a : Bool} (refusal : Checked) {rest : Checked} → a ≡ true → test a refusal rest ≡ rest
 unfolding test
 right refusal same = rw same
@@ -137,23 +130,6 @@ to x top same = on (le-leb 0 x (omega arith)) ∙ same
 pub stop : (p k : ℕ) (rest : Checked) → then (Body p k) rest ≡ Body p k
 unfolding then
 stop p k rest = refl
-
--- the code's `&` is the definitions' `both`
-pub both-and : (a other : Bool) → both a other ≡ (a && other)
-unfolding both
-both-and true other = refl
-both-and false other = refl
-
--- both tests of a pair that holds hold
-pub both-left : (a other : Bool) → both a other ≡ true → a ≡ true
-unfolding both
-both-left true other same = refl
-both-left false other same = absurd (false≢true same)
-
-pub both-right : (a other : Bool) → both a other ≡ true → other ≡ true
-unfolding both
-both-right true other same = same
-both-right false other same = absurd (false≢true same)
 
 -- where nothing wrong is found in the end, nothing was found before
 pub first-left : (found : Checked) (xs : List (ℕ × Bool)) → firstOf found xs ≡ Accepted → found ≡ Accepted

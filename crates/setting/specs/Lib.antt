@@ -1,4 +1,3 @@
 -- The definitions that the contracts of `setting` cite, in the order of the document.
-pub mod Range
 pub mod Found
 pub mod Setting

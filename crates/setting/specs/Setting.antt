@@ -9,7 +9,7 @@ use lib.Signed.{ltZ}
 use mir.Syntax.{w16}
 use Rattle.field.specs.Field.{field, signedField}
 use Rattle.field.specs.Tab.{tab}
-use Rattle.setting.specs.Range.{both, between, within, temperature}
+use Rattle.limits.specs.Range.{both, between, within, temperature}
 use Rattle.setting.specs.Found.{test, then}
 use Rattle.setting.specs.declared.Settings.{Settings}
 use Rattle.setting.specs.declared.Checked.{Checked}

@@ -4,9 +4,9 @@ ghost use Prim.Native.Nat.{_<_};
 ghost use Rattle.setting.specs.Setting.{headFound, halvesFound, settingsFound};
 use crate::Checked;
 use crate::Settings;
-use crate::range::in_limits;
 use crate::range::is_above;
-use crate::range::is_temperature;
+use limits::in_limits;
+use limits::is_temperature;
 
 // The settings up to the filter constant.
 fn check_head(settings: Settings) -> Checked

@@ -3,8 +3,6 @@
 ghost use mathlib.Core.Path.{_≡_};
 ghost use Rattle.setting.specs.Found.{numbersOf};
 ghost use Rattle.setting.specs.Setting.{settingsFound, settingsIn};
-pub use crate::range::in_limits;
-pub use crate::range::is_temperature;
 pub use crate::reading::read_settings;
 
 mod bytes;

@@ -6,7 +6,7 @@ use Rattle.field.specs.Field.{num, field, digits, stored, signedField}
 use Rattle.field.specs.Row.{row, rowAt, total, storedRow}
 use Rattle.field.specs.Tab.{tab}
 use Rattle.setting.specs.Found.{numbersOf as bankNumbers, test, then}
-use Rattle.setting.specs.Range.{both as bothIn, between, within, temperature}
+use Rattle.limits.specs.Range.{both as bothIn, between, within, temperature}
 use Rattle.setting.specs.Setting.{settingsAt, firstOf, headFound, halvesFound, settingsFound, settingsIn}
 use Rattle.capacity.specs.Capacity.{capacityOf}
 use Rattle.bank.specs.Check.{pairRight, pairsFrom, pairsFound, signalsRight, stepRight, stepsFound, bodiesFound, ofLength, foundIn}

@@ -8,10 +8,10 @@ use borrow.Author.Tests.{le-leb, lt-leb, eqb-true}
 use mathlib.Core.Bool.{Bool, cond}
 use lib.Dec.{leb, eqb}
 use lib.ListN.{getD}
-use Rattle.setting.specs.Range.{both, between}
+use Rattle.limits.specs.Range.{both, between}
 use Rattle.capacity.specs.Capacity.{capacityOf}
 use Rattle.capacity.proofs.Table.{at}
-use Rattle.setting.proofs.Laws.{on, off}
+use Rattle.limits.proofs.Laws.{on, off}
 use borrow.Author.Needs.{needs}
 use Rattle.capacity.proofs.capacity.Statement.{statement}
 use Rattle.capacity.proofs.capacity.Tie as tie

@@ -2,7 +2,7 @@
 -- Assumes nothing.
 use mathlib.Core.Path.{sym}
 use Rattle.setting.proofs.Laws.{both-and}
-use Rattle.setting.specs.Range.{between}
+use Rattle.limits.specs.Range.{between}
 use borrow.Author.Needs.{needs}
 use Rattle.bank.proofs.pair.has_pattern.Statement.{statement}
 use Rattle.bank.proofs.pair.has_pattern.Tie as tie

@@ -2,7 +2,7 @@
 use borrow.Author.Needs.{needs}
 use borrow.Author.Tests.{eq-eqb, ne-eqb}
 use denote.Ref.{now}
-use Rattle.setting.specs.Range.{both}
+use Rattle.limits.specs.Range.{both}
 use Rattle.field.proofs.Laws.{field-one}
 use Rattle.key.specs.Line.{isOnly}
 use Rattle.key.proofs.key.is_only.Statement.{statement}

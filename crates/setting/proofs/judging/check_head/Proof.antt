@@ -7,7 +7,7 @@ use borrow.Author.Tests.{le-leb, lt-leb}
 use lib.ListN.{drop}
 use lib.Signed.{ltZ}
 use Rattle.setting.proofs.Laws.{refused, passed, bits, within-bits, both-and, first-on, first-off, to}
-use Rattle.setting.specs.Range.{both, between, within, temperature}
+use Rattle.limits.specs.Range.{both, between, within, temperature}
 use Rattle.setting.specs.Setting.{firstOf, headRows, headFound}
 use Rattle.setting.specs.declared.Settings.{Settings}
 use Rattle.setting.specs.declared.Checked.the-variants.{Accepted}

@@ -13,7 +13,7 @@ use mir.Syntax.{w16}
 use mir.Val.{toZ, ofZ}
 use mir.Facts.{toZ-ofZ}
 use borrow.Author.Tests.{leb-true, not-true, not-false}
-use Rattle.setting.specs.Range.{both}
+use Rattle.limits.specs.Range.{both}
 use Rattle.capacity.specs.Capacity.{capacityOf}
 use Rattle.setting.specs.Found.{test, then}
 use Rattle.bank.specs.Check.{stepRight, bodiesFound}

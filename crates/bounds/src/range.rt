@@ -1,11 +1,11 @@
-// Whether the settings of the alarms are in range. Tests are joined by `&` and `|`, which have no branch.
+// Whether the settings of the alarms are in range.
 ghost use mathlib.Core.Path.{_≡_};
 ghost use mathlib.Core.Bool.{true};
 ghost use Rattle.alarm.specs.Alarm.{inRange, allInRange};
 ghost use Rattle.alarm.specs.Idle.{unset, allUnset};
 use alarm::AlarmSetting;
 use alarm::AlarmSettings;
-use setting::is_temperature;
+use limits::is_temperature;
 
 // Whether those of one are in range.
 fn is_in_range(setting: AlarmSetting) -> bool

@@ -1,11 +1,11 @@
--- `alarm_range::is_in_range` meets its contract. Assumes nothing.
+-- `bounds::range::is_in_range` meets its contract. Assumes nothing.
 use mir.Syntax.{w16}
 use mir.Val.{SFits}
 use mir.Facts.{toZ-ofZ}
 use Rattle.alarm.proofs.Coded.{range-joined}
 use borrow.Author.Needs.{needs}
-use Rattle.alarm_range.proofs.is_in_range.Statement.{statement}
-use Rattle.alarm_range.proofs.is_in_range.Tie as tie
+use Rattle.bounds.proofs.range.is_in_range.Statement.{statement}
+use Rattle.bounds.proofs.range.is_in_range.Tie as tie
 
 high : (c : tie.After-struct-told) → SFits w16 (c .before .args .setting .high)
 high c = record { sfits = c .struct-told .given .1 .0 .1 }

@@ -1,11 +1,11 @@
--- `setting::range::in_limits` meets its contract.
+-- `limits::in_limits` meets its contract.
 -- Assumes nothing.
 use mathlib.Core.Path.{sym}
 use mir.Facts.{toZ-ofZ}
-use Rattle.setting.proofs.Laws.{both-and}
-use Rattle.setting.specs.Range.{within}
-use Rattle.setting.proofs.range.in_limits.Statement.{statement}
-use Rattle.setting.proofs.range.in_limits.Tie as tie
+use Rattle.limits.proofs.Laws.{both-and}
+use Rattle.limits.specs.Range.{within}
+use Rattle.limits.proofs.in_limits.Statement.{statement}
+use Rattle.limits.proofs.in_limits.Tie as tie
 
 returns : tie.Need-returns
 unfolding within

@@ -1,9 +1,9 @@
--- `alarm_range::are_unset` meets its contract. Assumes nothing.
+-- `bounds::range::are_unset` meets its contract. Assumes nothing.
 use mathlib.Core.Bool.{false≢true}
 use borrow.Author.Tests.{not-false}
 use borrow.Author.Needs.{needs}
-use Rattle.alarm_range.proofs.are_unset.Statement.{statement}
-use Rattle.alarm_range.proofs.are_unset.Tie as tie
+use Rattle.bounds.proofs.range.are_unset.Statement.{statement}
+use Rattle.bounds.proofs.range.are_unset.Tie as tie
 
 returns : tie.Need-returns
 returns c = λ is. absurd (false≢true is)

@@ -1,12 +1,12 @@
--- `alarm_range::is_unset` meets its contract. Assumes nothing.
+-- `bounds::range::is_unset` meets its contract. Assumes nothing.
 use mathlib.Core.Path.{sym, ap, _∙_}
 use mathlib.Core.Bool.{false≢true}
 use borrow.Author.Tests.{eqb-true}
 use mir.Syntax.{w16}
 use mir.Val.{SFits, toZ}
 use mir.Facts.{toZ-ofZ}
-use Rattle.alarm_range.proofs.is_unset.Statement.{statement}
-use Rattle.alarm_range.proofs.is_unset.Tie as tie
+use Rattle.bounds.proofs.range.is_unset.Statement.{statement}
+use Rattle.bounds.proofs.range.is_unset.Tie as tie
 
 high : (c : tie.After-struct-told) → SFits w16 (c .before .before .before .before .args .setting .high)
 high c = record { sfits = c .struct-told .given .1 .0 .1 }

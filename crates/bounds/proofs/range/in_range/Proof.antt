@@ -1,10 +1,10 @@
--- `alarm_range::in_range` meets its contract. Assumes nothing.
+-- `bounds::range::in_range` meets its contract. Assumes nothing.
 use Rattle.alarm.specs.Alarm.{allInRange}
 use Rattle.alarm.proofs.Coded.{joined, last}
 use Rattle.alarm.proofs.Short.{unset-in-range}
 use borrow.Author.Needs.{needs}
-use Rattle.alarm_range.proofs.in_range.Statement.{statement}
-use Rattle.alarm_range.proofs.in_range.Tie as tie
+use Rattle.bounds.proofs.range.in_range.Statement.{statement}
+use Rattle.bounds.proofs.range.in_range.Tie as tie
 
 returns : tie.Need-returns
 returns c = unset-in-range _ (c .before .are-unset .ensures (c .if1 .taken))
