@@ -5,12 +5,10 @@ ghost use Rattle.plain.specs.Setup.{over};
 ghost use Rattle.plain.specs.Event.{makeOutcome};
 ghost use Rattle.making.specs.Ran.{afterRan, Begins, IsMade, darkRan as darkOf};
 use checkpoint::SIZE;
-use measure::Measured;
 use plain::Answer;
 use plain::Config;
 use plain::Refusal;
 use plain::Run;
-use position::Position;
 use run::dark_run;
 use setting::Checked;
 
@@ -34,24 +32,15 @@ fn dark(answer: Answer) -> Ran
     }
 }
 
-// The fresh run.
+// The fresh run: p = k = r = 1, and all else as with power off.
 fn fresh_run() -> Run
     ensures { λ result. ⌜ result ≡ freshRun ⌝ }
 {
-    Run {
-        position: Position {
-            mode: 0,
-            pattern: 1,
-            step: 1,
-            pass: 1,
-            elapsed: 0,
-            waited: 0,
-            base: 0,
-        },
-        unsaved: 0,
-        measured: Measured::NoReading,
-        alarms: bounds::cleared(),
-    }
+    let mut run = dark_run();
+    run.position.pattern = 1;
+    run.position.step = 1;
+    run.position.pass = 1;
+    run
 }
 
 // The fresh controller, which is saved.
