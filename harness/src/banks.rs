@@ -110,6 +110,24 @@ impl Draft {
             .sum();
         self.steps.get(before + (k as usize).checked_sub(1)?)
     }
+
+    /// Whether step k of pattern p is the timer in pass r.
+    pub fn is_timer(&self, p: u8, k: u8, r: u16) -> bool {
+        let Settings { start, sll, .. } = self.settings;
+        let first = self.step(p, 1).map(|step| step.target);
+        (start, k, r, first) == (0, 1, 1, Some(sll))
+    }
+
+    /// Gives half of the patterns the first target that the timer has.
+    fn set_timers(&mut self, random: &mut Random) {
+        let mut at = 0;
+        for &(_, s) in &self.patterns[..self.settings.n as usize] {
+            if s > 0 && random.once_in(2) {
+                self.steps[at].target = self.settings.sll;
+            }
+            at += s as usize;
+        }
+    }
 }
 
 fn limits(random: &mut Random) -> (i16, i16) {
@@ -229,7 +247,9 @@ pub fn lively(random: &mut Random) -> Draft {
     } else {
         1 + random.below(15)
     };
-    lively_of(random, n as u8)
+    let mut draft = lively_of(random, n as u8);
+    draft.set_timers(random);
+    draft
 }
 
 /// A valid draft of n patterns with as many steps as fit.

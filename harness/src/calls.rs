@@ -136,7 +136,7 @@ impl Comparer {
         let (record, state) = (&mut self.model_record, &mut self.model_state);
         let model = call.model(given.bank, given.config, record, state);
         self.count(&call, model);
-        self.count_alarms(&call, model, given);
+        self.count_moves(&call, model, given);
         let same = library == model
             && self.record.slice() == &self.model_record[..]
             && self.state.slice() == &self.model_state[..];
@@ -197,12 +197,19 @@ impl Comparer {
         *self.tally.answers.entry(word & 0xff).or_default() += 1;
     }
 
-    fn count_alarms(&mut self, call: &Call, word: u64, given: Given) {
-        let alarms = &mut self.tally.alarms;
+    /// Counts what became of alarms and timer.
+    fn count_moves(&mut self, call: &Call, word: u64, given: Given) {
+        let Tally { alarms, timer, .. } = &mut self.tally;
         match call {
             Call::Check | Call::Write { .. } => (),
-            _ if word & 0xff != 0 => alarms.refused(word, given),
-            Call::Event { kind, .. } => alarms.event(*kind, word, given, &self.model_state),
+            _ if word & 0xff != 0 => {
+                alarms.refused(word, given);
+                timer.refused(word, given);
+            }
+            Call::Event { kind, .. } => {
+                alarms.event(*kind, word, given, &self.model_state);
+                timer.event(*kind, given, &self.model_state);
+            }
             _ => (),
         }
     }

@@ -1,4 +1,4 @@
-//! A fixed cook with waits, two passes and alarms, cut after every second and every key.
+//! A fixed cook with the timer, waits, two passes and alarms, cut after every second and every key.
 
 use model::{AlarmSetting, Config, Settings};
 
@@ -18,26 +18,31 @@ use crate::setup::Setup;
 /// Events of the cook that follow a return.
 const TAIL: usize = 130;
 /// Seconds of the cook.
-const SECONDS: usize = 860;
+const SECONDS: usize = 950;
 
-/// Keys, each pressed after so many seconds.
-const KEYS: [(usize, u32, i32); 16] = [
+/// Keys, each pressed after so many seconds: the timer, set back into and fed; then the steps behind it, in two passes; a start that ends at
+/// once; and one that skips its first step.
+const KEYS: [(usize, u32, i32); 20] = [
     (1, SELECT, 2),
     (1, START, 0),
     (20, PAUSE, 0),
     (27, PAUSE, 0),
     (33, PLUS, 0),
-    (90, MINUS, 0),
-    (150, BACK, 0),
-    (260, FEED, 0),
-    (300, PLUS, 0),
-    (380, START, 0),
-    (480, MINUS, 0),
-    (640, FEED, 0),
-    (640, PLUS, 0),
-    (760, RESET, 0),
-    (760, SELECT, 1),
-    (770, START, 0),
+    (80, BACK, 0),
+    (95, FEED, 0),
+    (185, MINUS, 0),
+    (245, BACK, 0),
+    (355, FEED, 0),
+    (395, PLUS, 0),
+    (475, START, 0),
+    (575, MINUS, 0),
+    (735, FEED, 0),
+    (735, PLUS, 0),
+    (855, RESET, 0),
+    (855, SELECT, 1),
+    (865, START, 0),
+    (868, SELECT, 3),
+    (870, START, 0),
 ];
 
 /// The room is hot, with a delay of more ticks than lie between two saves; it is ahead of the set value, held; it lags
@@ -60,7 +65,7 @@ const ALARMS: [AlarmSetting; 4] = [
 
 fn setup(outage: u8) -> Setup {
     let settings = Settings {
-        n: 2,
+        n: 3,
         start: 0,
         outage,
         sll: 0,
@@ -75,13 +80,16 @@ fn setup(outage: u8) -> Setup {
     };
     let steps = [
         (250, 1, 0),
+        (0, 2, 2),
         (400, 1, 1),
         (420, 0, 2),
         (560, 2, 0),
         (300, 1, 3),
         (300, 0, 4),
+        (900, 1, 0),
+        (300, 1, 0),
     ];
-    let draft = banks::fixed(settings, &[(1, 1), (2, 5)], &steps, [1, 2, 5, 4]);
+    let draft = banks::fixed(settings, &[(1, 1), (2, 6), (1, 2)], &steps, [1, 2, 5, 4]);
     Setup::new(draft.bank(), Config { alarms: ALARMS })
 }
 
@@ -180,12 +188,21 @@ fn sounds(cook: &Cook, alarm: usize) -> bool {
         && pairs.any(|pair| on(&pair[0].state) && !on(&pair[1].state))
 }
 
-/// Whether the cook shows what it is for: waits, a second pass, an end, alarms.
+/// Whether the cook shows what it is for: the timer, waits, a second pass, an end, alarms; a start in each of its three ways.
 fn complete(cook: &Cook) -> bool {
-    let waits = cook.helds.iter().any(|held| held.state[10..14] != [0; 4]);
-    let second = cook.helds.iter().any(|held| held.state[4] == 2);
-    let end = cook.helds.iter().any(|held| held.state[1] == 3);
-    waits && second && end && (0..4).all(|alarm| sounds(cook, alarm))
+    let is_any = |shown: fn(&[u8]) -> bool| cook.helds.iter().any(|held| shown(&held.state));
+    let started = |mode: u8, step: u8| {
+        let mut pairs = cook.list.iter().zip(&cook.helds[1..]);
+        pairs
+            .any(|(event, held)| event.0 == START && held.state[1] == mode && held.state[3] == step)
+    };
+    let timer =
+        is_any(|state| state[1..6] == [1, 2, 1, 1, 0] && state[6] > 0 && state[14..16] != [0; 2]);
+    let waits = is_any(|state| state[10..14] != [0; 4]);
+    let second = is_any(|state| state[4] == 2);
+    let ends = cook.last().state[1..4] == [3, 3, 2];
+    let starts = started(1, 1) && started(1, 2) && started(3, 1);
+    timer && waits && second && ends && starts && (0..4).all(|alarm| sounds(cook, alarm))
 }
 
 /// Cuts after every event of the cook, with every outage choice.
@@ -194,7 +211,7 @@ pub fn compare(comparer: &mut Comparer) -> Compared {
         let cook = Cook::new(comparer, outage)?;
         assert!(
             complete(&cook),
-            "the fixed cook has waits, two passes, an end and alarms"
+            "the fixed cook has the timer, waits, two passes, an end, alarms and starts of each kind"
         );
         for number in 0..=cook.list.len() {
             let room = cook.room[number];

@@ -18,6 +18,7 @@ pub mod report;
 pub mod setup;
 pub mod states;
 pub mod tally;
+pub mod timer_tally;
 pub mod timing;
 pub mod walk;
 pub mod writer;

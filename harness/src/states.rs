@@ -59,8 +59,8 @@ fn measured(random: &mut Random, near: i16) -> Measured {
     Measured::Value(value.clamp(-19_999.0, 29_999.0))
 }
 
-/// Elapsed and waited seconds of a step, as a readable record may hold them.
-fn times(random: &mut Random, draft: &Draft, p: u8, k: u8) -> (u32, u32) {
+/// Elapsed and waited seconds of a step in a pass, as a readable record may hold them.
+fn times(random: &mut Random, draft: &Draft, p: u8, k: u8, r: u16) -> (u32, u32) {
     let Some(step) = draft.step(p, k) else {
         return (0, 0);
     };
@@ -77,6 +77,7 @@ fn times(random: &mut Random, draft: &Draft, p: u8, k: u8) -> (u32, u32) {
         _ => random.below(t as usize + 1) as u32,
     };
     let wait = match step.wait {
+        _ if draft.is_timer(p, k, r) => 0,
         number @ 1..=4 => 60 * u32::from(draft.settings.waits[number as usize - 1]),
         _ => 0,
     };
@@ -143,7 +144,7 @@ fn placed(random: &mut Random, draft: &Draft) -> State {
     if state.mode == 3 {
         return state;
     }
-    (state.e, state.w) = times(random, draft, p, state.k);
+    (state.e, state.w) = times(random, draft, p, state.k, state.r);
     let target = draft.step(p, state.k).map_or(0, |step| step.target);
     state.b = base(random, draft, target);
     state.measured = measured(random, target);
@@ -160,11 +161,20 @@ pub fn sound(random: &mut Random, draft: &Draft, config: &Config) -> State {
 /// The floats next to the ends of the temperature range.
 const JUST_OUT: [f64; 2] = [29_999.000_000_000_004, -19_999.000_000_000_004];
 
+/// Has a run wait at step 1 of pass 1, which no timer does.
+fn wait_first(random: &mut Random, draft: &Draft, state: &mut State) {
+    let Some(step) = draft.step(state.p, 1).filter(|_| state.mode % 3 != 0) else {
+        return;
+    };
+    (state.k, state.r) = (1, 1);
+    (state.e, state.w) = (60 * u32::from(step.minutes), random.pick(&[1, 1, 59, 60]));
+}
+
 /// A state with one thing moved out of its place.
 fn unsound(random: &mut Random, draft: &Draft, config: &Config) -> State {
     let mut state = sound(random, draft, config);
     let (runs, s) = draft.patterns[state.p as usize - 1];
-    match random.below(22) {
+    match random.below(24) {
         0 => state.mode = random.pick(&[4, 5, 128, 255]),
         1 => state.mode = random.below(4) as u8,
         2 => state.p = random.pick(&[0, draft.settings.n + 1, 16, 255]),
@@ -184,6 +194,7 @@ fn unsound(random: &mut Random, draft: &Draft, config: &Config) -> State {
         13 => state.measured = Measured::Value(random.pick(&JUST_OUT)),
         14 => state.p = 1 + random.below(15) as u8,
         15 => state.k = 1 + random.below(99) as u8,
+        16 | 17 => wait_first(random, draft, &mut state),
         _ => alarms::disturb(random, config, &mut state.alarms),
     }
     state

@@ -4,6 +4,7 @@ use std::collections::BTreeMap;
 use std::fmt;
 
 use crate::alarm_tally::AlarmTally;
+use crate::timer_tally::TimerTally;
 
 #[derive(Clone, Debug, Default)]
 pub struct Tally {
@@ -26,6 +27,7 @@ pub struct Tally {
     pub inputs: u64,
     pub printed: u64,
     pub alarms: AlarmTally,
+    pub timer: TimerTally,
     /// Results by number.
     pub answers: BTreeMap<u64, u64>,
 }
@@ -59,6 +61,7 @@ impl Tally {
             *count += *more;
         }
         self.alarms.add(other.alarms);
+        self.timer.add(other.timer);
         for (number, more) in other.answers {
             *self.answers.entry(number).or_default() += more;
         }
@@ -95,7 +98,7 @@ impl fmt::Display for Tally {
                 writeln!(out, "{name:<34}{count:>12}")?;
             }
         }
-        write!(out, "{}", self.alarms)?;
+        write!(out, "{}{}", self.timer, self.alarms)?;
         if self.answers.is_empty() {
             return Ok(());
         }

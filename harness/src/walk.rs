@@ -52,12 +52,12 @@ fn walk(comparer: &mut Comparer, setup: &Setup, alphabet: &[Raw], depth: usize) 
     .walk(comparer, &made, depth)
 }
 
-/// A small bank of one pattern, its alarms, and the alphabet of its lists.
+/// A small bank, its alarms, and the alphabet of its lists.
 struct Small {
     start: u8,
     outage: u8,
-    runs: u8,
-    steps: [(i16, u16, u8); 2],
+    patterns: &'static [(u8, u8)],
+    steps: &'static [(i16, u16, u8)],
     alarms: [AlarmSetting; 4],
     alphabet: [Raw; 10],
 }
@@ -66,8 +66,8 @@ struct Small {
 const PASSES: Small = Small {
     start: 1,
     outage: 2,
-    runs: 2,
-    steps: [(600, 0, 0), (300, 0, 0)],
+    patterns: &[(2, 2)],
+    steps: &[(600, 0, 0), (300, 0, 0)],
     alarms: [
         between(6, 0, 600, 1, 0),
         between(2, 0, 300, 0, HOLD),
@@ -90,10 +90,10 @@ const PASSES: Small = Small {
 
 /// A wait and an endless step, with readings in and out of the outage width.
 const OUTAGES: Small = Small {
-    start: 0,
+    start: 1,
     outage: 2,
-    runs: 0,
-    steps: [(400, 0, 1), (400, 6_000, 0)],
+    patterns: &[(0, 2)],
+    steps: &[(400, 0, 1), (400, 6_000, 0)],
     alarms: [
         AlarmSetting {
             sensitivity: 20,
@@ -124,8 +124,8 @@ const OUTAGES: Small = Small {
 const TIMES: Small = Small {
     start: 1,
     outage: 1,
-    runs: 1,
-    steps: [(600, 2, 2), (0, 0, 2)],
+    patterns: &[(1, 2)],
+    steps: &[(600, 2, 2), (0, 0, 2)],
     alarms: [
         between(2, 0, 300, 1, 0),
         between(3, -9, 0, 0, STANDBY),
@@ -149,10 +149,36 @@ const TIMES: Small = Small {
     ],
 };
 
+/// The timer with a wait number and a second pass; a first step that is skipped, and alone ends its start.
+const TIMERS: Small = Small {
+    start: 0,
+    outage: 2,
+    patterns: &[(2, 1), (1, 2), (5, 1)],
+    steps: &[(0, 1, 1), (400, 0, 1), (330, 6_000, 0), (400, 1, 0)],
+    alarms: [
+        between(2, 0, 0, 0, 0),
+        between(3, -50, 0, 1, HOLD),
+        between(4, -1, 1, 0, STANDBY),
+        between(1, -70, 70, 0, 0),
+    ],
+    alphabet: [
+        (TICK, 400),
+        (TICK, 330),
+        (START, 0),
+        (FEED, 0),
+        (BACK, 0),
+        (MINUS, 0),
+        (CUT, 0),
+        (RETURN, 350),
+        (SELECT, 2),
+        (SELECT, 3),
+    ],
+};
+
 impl Small {
     fn setup(&self) -> Setup {
         let settings = Settings {
-            n: 1,
+            n: self.patterns.len() as u8,
             start: self.start,
             outage: self.outage,
             sll: 0,
@@ -165,15 +191,15 @@ impl Small {
             on: [0, 1, 0, 0],
             off: [1, 2, 0, 0],
         };
-        let draft = banks::fixed(settings, &[(self.runs, 2)], &self.steps, [1, 2, 5, 0]);
+        let draft = banks::fixed(settings, self.patterns, self.steps, [1, 2, 5, 0]);
         let alarms = self.alarms;
         Setup::new(draft.bank(), Config { alarms })
     }
 }
 
-/// Every list up to `depth` events of three alphabets over small banks.
+/// Every list up to `depth` events of four alphabets over small banks.
 pub fn every_list(comparer: &mut Comparer, depth: usize) -> Compared {
-    [PASSES, OUTAGES, TIMES]
+    [PASSES, OUTAGES, TIMES, TIMERS]
         .iter()
         .try_for_each(|small| walk(comparer, &small.setup(), &small.alphabet, depth))
 }

@@ -2,7 +2,8 @@
 //! bank of patterns, with a record in retained memory".
 //!
 //! The quoted words in the comments are those of the scope document and of its
-//! change request 1, the four event alarms.
+//! change requests 1, the four event alarms, and 2, the timer before the first
+//! ramp.
 
 #![forbid(unsafe_code)]
 
@@ -14,6 +15,7 @@ mod machine;
 mod record;
 mod replay;
 mod sheet;
+mod timer;
 mod types;
 
 pub use alarms::{config_bytes, config_from};

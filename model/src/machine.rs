@@ -4,6 +4,7 @@
 use crate::alarms;
 use crate::bank::Bank;
 use crate::record::{ENDLESS_MOST, TICKS_TO_SAVE};
+use crate::timer::{current_step, in_timer};
 use crate::types::{
     Alarm, Answer, Command, Config, Measured, Reading, Refusal, State, Step, ENDED, PAUSED,
     RUNNING, STOPPED, TEMPERATURES,
@@ -30,7 +31,7 @@ pub(crate) fn answer(bank: &Bank, state: &State) -> Answer {
     }
     let step = current_step(bank, state);
     Answer::Accepted {
-        set_value: ramp(&step, state.b, state.e),
+        set_value: set_value(bank, state),
         signals: step
             .signals
             .map(|signal| signal_is_on(bank, signal, state.e)),
@@ -42,12 +43,8 @@ fn in_program(state: &State) -> bool {
     state.mode == RUNNING || state.mode == PAUSED
 }
 
-fn current_step(bank: &Bank, state: &State) -> Step {
-    bank.step(state.p, state.k)
-}
-
-/// "Set value, modes 1 and 2: the target if T = 0 or the step is endless; else
-/// b moved toward the target by |target − b| × e / T, rounded down."
+/// "the target if T = 0 or the step is endless; else b moved toward the target
+/// by |target − b| × e / T, rounded down."
 fn ramp(step: &Step, b: i16, e: u32) -> i16 {
     let t = i64::from(step.seconds());
     if t == 0 || step.is_endless() {
@@ -58,9 +55,14 @@ fn ramp(step: &Step, b: i16, e: u32) -> i16 {
     (i64::from(b) + way.signum() * moved) as i16
 }
 
-/// The set value of a state in mode 1 or 2.
+/// "Set value, modes 1 and 2": in the timer "the set value is b, also at 0
+/// minutes or endless".
 fn set_value(bank: &Bank, state: &State) -> i16 {
-    ramp(&current_step(bank, state), state.b, state.e)
+    if in_timer(bank, state) {
+        state.b
+    } else {
+        ramp(&current_step(bank, state), state.b, state.e)
+    }
 }
 
 /// "A time signal, modes 1 and 2: 5 is on; j from 1 to 4 is on while on minute
@@ -273,7 +275,8 @@ fn mode_is_listed(command: Command, mode: u8) -> bool {
 }
 
 /// "mode 1, k = r = 1, e = w = 0, credits 0, b the measured whole value or the
-/// start value by the start choice"
+/// start value by the start choice"; under start choice 0 step 1 is the timer,
+/// "otherwise the run begins at step 2".
 fn start(bank: &Bank, state: &mut State) -> Result<(), Refusal> {
     if bank.pattern(state.p).s == 0 {
         return Err(Refusal::plain(28));
@@ -286,7 +289,21 @@ fn start(bank: &Bank, state: &mut State) -> Result<(), Refusal> {
     state.mode = RUNNING;
     state.b = b;
     state.credits.fill(0);
+    if bank.settings.start == 0 && !in_timer(bank, state) {
+        skip_step_1(bank, state);
+    }
     Ok(())
+}
+
+/// "the run begins at step 2, with step 1 skipped in the first pass only"; "A
+/// one-step pattern without the timer ends at the start with k = r = 1,
+/// whatever its runs."
+fn skip_step_1(bank: &Bank, state: &mut State) {
+    if bank.pattern(state.p).s > 1 {
+        state.k = 2;
+    } else {
+        end(state);
+    }
 }
 
 /// "k > 1: b becomes the set value, k falls by 1, e = w = 0; k = 1: only

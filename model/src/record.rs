@@ -3,6 +3,7 @@
 use crate::alarms;
 use crate::bank::Bank;
 use crate::fields::{FieldReader, FieldWriter};
+use crate::timer::current_step;
 use crate::types::{Alarm, Config, Measured, State, CREDITS, ENDED, STOPPED, TEMPERATURES};
 
 /// "Record, 411 bytes", and for the alarms "12 bytes more".
@@ -124,9 +125,9 @@ fn position_is_readable(bank: &Bank, state: &State) -> bool {
 }
 
 /// "modes 1, 2 have e ≤ T (endless 359,999) and w = 0, or e = T and
-/// 0 < w < W, never endless"
+/// 0 < w < W, never endless"; W is 0 in the timer, where w is then 0.
 fn time_is_readable(bank: &Bank, state: &State) -> bool {
-    let step = bank.step(state.p, state.k);
+    let step = current_step(bank, state);
     if step.is_endless() {
         return state.e <= ENDLESS_MOST && state.w == 0;
     }

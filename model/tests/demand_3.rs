@@ -5,8 +5,8 @@ mod common;
 
 use common::*;
 use model::{
-    credits_due, record_of, replay, saves, what_is_left, Alarm, Answer, Config, Event, Left,
-    Reading, Refusal, State,
+    credits_due, record_of, replay, saves, what_is_left, Alarm, Answer, Command, Config, Event,
+    Left, Reading, Refusal, State,
 };
 
 /// The whole claim for one list.
@@ -115,6 +115,52 @@ fn long_runs_with_cuts() {
         sounding += usize::from(state.alarms.iter().any(|alarm| alarm.flags & 1 == 1));
     }
     assert!(ended > 10 && sounding > 10, "{ended}, {sounding}");
+}
+
+/// A list that starts often, feeds and goes back, with an outage now and then.
+fn list_of_starts(random: &mut Random) -> Vec<Event> {
+    let mut events = vec![tick(20), START];
+    while events.len() < 120 {
+        match random.between(0, 39) {
+            0 => events.extend([Event::Cut, Event::Return(random.reading())]),
+            1 => events.extend([Event::Command(Command::Reset), START]),
+            2 => events.push(Event::Command(Command::Back)),
+            3 => events.extend([Command::Feed, Command::Back].map(Event::Command)),
+            4 => events.push(Event::Command(random.command())),
+            _ => events.push(Event::Tick(random.reading())),
+        }
+    }
+    events
+}
+
+/// Under start choice 0: outages in the timer, starts that skip step 1, starts
+/// that end at once.
+#[test]
+fn lists_with_the_timer() {
+    let mut random = Random::new(19);
+    let (mut in_it, mut returned, mut skipped, mut ended) = (0, 0, 0, 0);
+    for _ in 0..400 {
+        let (bank, config) = (random.bank_from_measured_value(), random.config());
+        let events = list_of_starts(&mut random);
+        for length in (1..=events.len()).step_by(17) {
+            claim_holds(&bank, &config, &events[..length]);
+        }
+        let mut controller = Controller::with(bank, config);
+        for event in events {
+            let answer = controller.send(event);
+            let State { mode, k, .. } = controller.state;
+            if !is_accepted(answer) || mode == 0 {
+                continue;
+            }
+            let timer = in_timer(&controller.bank, &controller.state);
+            in_it += usize::from(timer);
+            returned += usize::from(timer && matches!(event, Event::Return(_)));
+            skipped += usize::from(event == START && k == 2);
+            ended += usize::from(event == START && mode == 3);
+        }
+    }
+    let seen = [in_it, returned, skipped, ended];
+    assert!(seen.iter().all(|&count| count > 100), "{seen:?}");
 }
 
 #[test]

@@ -43,14 +43,16 @@ fn set_value_examples() {
     assert_eq!(ramp(600, 200, 1, 1), 594);
 }
 
-/// y after the reading v, and the base that a start then takes from it.
+/// y after the reading v, and the base that a start then takes from it; step 1
+/// is no timer, so the run begins at step 2.
 fn filtered(y: f64, v: i32) -> (Measured, i16) {
     let from_measured = Settings {
         start: 0,
         filter: 10,
         ..settings(1)
     };
-    let mut controller = Controller::new(bank(&from_measured, &[(1, &[step(600, 2)])]));
+    let steps = [step(600, 2), step(600, 1)];
+    let mut controller = Controller::new(bank(&from_measured, &[(1, &steps)]));
     controller.state.measured = Measured::Value(y);
     controller.send(tick(v));
     let measured = controller.state.measured;

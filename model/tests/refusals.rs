@@ -13,13 +13,6 @@ fn changed(offset: usize, value: u8) -> Result<(), Refusal> {
     check(&example_with(offset, value))
 }
 
-/// Sends an event that must be refused, and checks that it leaves all.
-fn refuses(controller: &mut Controller, event: Event, number: u8) {
-    let (record, state) = (controller.record, controller.state);
-    assert_eq!(controller.send(event), refused(number), "{event:?}");
-    assert_eq!((controller.record, controller.state), (record, state));
-}
-
 #[test]
 fn refusal_11_is_for_a_bank_under_45_bytes() {
     for length in 0..45 {
@@ -334,7 +327,8 @@ fn refusal_29_is_for_a_start_from_no_filtered_value() {
         start: 0,
         ..settings(1)
     };
-    let mut controller = Controller::new(bank(&from_measured, &[(1, &[step(600, 2)])]));
+    let steps = [step(600, 2), step(600, 1)];
+    let mut controller = Controller::new(bank(&from_measured, &[(1, &steps)]));
     refuses(&mut controller, START, 29);
     for reading in [Reading::Over, Reading::Under] {
         controller.send(Event::Tick(reading));

@@ -16,10 +16,10 @@ use Rattle.plain.specs.Refusals.{commandMove}
 use Rattle.command.specs.Moves.{Takes}
 
 -- what is left of its rows: 28 to 30, or where it goes
-pub taken-is : (settings : Settings) (here : Here) (whole : Whole) (position : Position) (command : Command) → Takes settings position command
-    → commandMove settings here whole position command
+pub taken-is : (settings : Settings) (here first : Here) (whole : Whole) (position : Position) (command : Command) → Takes settings position command
+    → commandMove settings here first whole position command
     ≡ cond (both (isStart command) (eqb (here .count) 0)) (Move.No Refusal.NoStep)
     (cond (both (isStart command) (lacksValue settings whole)) (Move.No Refusal.NoValue)
-    (cond (stuckOf here position command) (Move.No Refusal.Stuck) (Move.To (commandPosition settings here whole position command))))
+    (cond (stuckOf here position command) (Move.No Refusal.Stuck) (Move.To (commandPosition settings here first whole position command))))
 unfolding commandMove
-taken-is settings here whole position command h = rw (h .selects, h .takes) refl
+taken-is settings here first whole position command h = rw (h .selects, h .takes) refl

@@ -1,6 +1,7 @@
 // A command on a position: its refusals, 26 to 30, or where it goes.
 ghost use mathlib.Core.Path.{_≡_};
 ghost use mathlib.Core.Bool.{true};
+ghost use Rattle.position.specs.Program.{firstAt};
 ghost use Rattle.position.specs.Command.{takesOf, selectsOf, stopPosition, startPosition, pausePosition, backPosition};
 ghost use Rattle.plain.specs.Refusals.{commandMove};
 ghost use Rattle.position.specs.declared.Command.{Command};
@@ -56,11 +57,11 @@ pub fn stopped(pattern: u8) -> Position
     }
 }
 
-// Start, from base b.
-fn started(position: Position, b: i16) -> Move
-    ensures { λ result. ⌜ result ≡ Move.To (startPosition position b) ⌝ }
+// Start, from base b: at step 1, but under start choice 0 without the timer at step 2, and a one-step pattern is then at its end.
+fn started(bank: &[u8], settings: Settings, position: Position, b: i16) -> Position
+    ensures { λ result. ⌜ result ≡ startPosition settings (firstAt (now (bank .entry)) settings position) position b ⌝ }
 {
-    Move::To(Position {
+    let mut begun = Position {
         mode: 1,
         pattern: position.pattern,
         step: 1,
@@ -68,24 +69,38 @@ fn started(position: Position, b: i16) -> Move
         elapsed: 0,
         waited: 0,
         base: b,
-    })
+    };
+    if settings.start != 0 {
+        return begun;
+    }
+    let first = program::here_at(bank, settings, position.pattern, 1, 1);
+    if first.timer {
+        return begun;
+    }
+    if 1 < first.count {
+        begun.step = 2;
+        return begun;
+    }
+    begun.mode = 3;
+    begun.base = 0;
+    begun
 }
 
 // Start: 28 for a pattern with no step, 29 for start choice 0 with no filtered value.
-fn start(settings: Settings, here: Here, value: Whole, position: Position) -> Move
+fn start(bank: &[u8], settings: Settings, here: Here, value: Whole, position: Position) -> Move
     requires { ⌜ takesOf Command.Start (position .mode) ≡ true ⌝ }
-    ensures { λ result. ⌜ result ≡ commandMove settings here value position Command.Start ⌝ }
+    ensures { λ result. ⌜ result ≡ commandMove settings here (firstAt (now (bank .entry)) settings position) value position Command.Start ⌝ }
 {
     if here.count == 0 {
         return Move::No(Refusal::NoStep);
     }
     if settings.start != 0 {
-        return started(position, settings.initial);
+        return Move::To(started(bank, settings, position, settings.initial));
     }
     let Whole::Value(v) = value else {
         return Move::No(Refusal::NoValue);
     };
-    started(position, v)
+    Move::To(started(bank, settings, position, v))
 }
 
 // Pause.
@@ -115,13 +130,20 @@ fn back(here: Here, mut position: Position) -> Position
 }
 
 // What a command does in a mode that takes it.
-fn taken(settings: Settings, here: Here, value: Whole, position: Position, pressed: Command) -> Move
+fn taken(
+    bank: &[u8],
+    settings: Settings,
+    here: Here,
+    value: Whole,
+    position: Position,
+    pressed: Command,
+) -> Move
     requires { ⌜ Takes settings position pressed ⌝ }
-    ensures { λ result. ⌜ result ≡ commandMove settings here value position pressed ⌝ }
+    ensures { λ result. ⌜ result ≡ commandMove settings here (firstAt (now (bank .entry)) settings position) value position pressed ⌝ }
 {
     match pressed {
         Command::Select(q) => Move::To(stopped(q as u8)),
-        Command::Start => start(settings, here, value, position),
+        Command::Start => start(bank, settings, here, value, position),
         Command::Pause => Move::To(paused(position)),
         Command::Reset => Move::To(stopped(position.pattern)),
         Command::Feed => Move::To(program::feed(here, position)),
@@ -133,13 +155,14 @@ fn taken(settings: Settings, here: Here, value: Whole, position: Position, press
 
 // A command: 26, then 27 for a mode not listed for it, then what it does there.
 pub fn command(
+    bank: &[u8],
     settings: Settings,
     here: Here,
     value: Whole,
     position: Position,
     pressed: Command,
 ) -> Move
-    ensures { λ result. ⌜ result ≡ commandMove settings here value position pressed ⌝ }
+    ensures { λ result. ⌜ result ≡ commandMove settings here (firstAt (now (bank .entry)) settings position) value position pressed ⌝ }
 {
     if !selects(settings, pressed) {
         return Move::No(Refusal::NoPattern);
@@ -147,5 +170,5 @@ pub fn command(
     if !takes(pressed, position.mode) {
         return Move::No(Refusal::WrongMode);
     }
-    taken(settings, here, value, position, pressed)
+    taken(bank, settings, here, value, position, pressed)
 }

@@ -12,12 +12,11 @@ use types.Run.{OneOf}
 use lib.ListN.{length, set}
 use Rattle.setting.specs.declared.Settings.{Settings}
 use Rattle.setting.proofs.Laws.{both-left, both-right}
-use Rattle.bank.specs.View.{placeOf}
 use Rattle.position.specs.declared.Position.{Position}
 use Rattle.position.specs.declared.Here.{Here}
 use Rattle.position.specs.declared.Command.{Command}
 use Rattle.position.specs.Tests.{both, either, all}
-use Rattle.position.specs.Program.{hereOf, setValueOf}
+use Rattle.position.specs.Program.{firstAt, setValueOf}
 use Rattle.position.specs.Command.{isStart}
 use Rattle.position.proofs.Command.{the-type as command-type}
 use Rattle.measure.specs.Filter.{wholeOf}
@@ -29,18 +28,13 @@ use Rattle.plain.specs.declared.Run.{Run}
 use Rattle.plain.specs.declared.Config.{Config}
 use Rattle.plain.specs.declared.Event.{Event}
 use Rattle.plain.specs.declared.Refusal.{Refusal}
-use Rattle.plain.specs.Setup.{Setup, hereIn}
+use Rattle.plain.specs.Setup.{Setup, hereIn, firstIn}
 use Rattle.plain.specs.Run.{soundBy, soundIn}
 use Rattle.plain.specs.Refusals.{Row, judged, isReturn, soundState}
-use Rattle.effect.specs.Known.{saidAt, Known}
+use Rattle.effect.specs.Known.{Known}
 use Rattle.effect.specs.Done.{alarmsBy, alarmsIf, keepsAlarms, recordBounded, boundedFor}
 
 -- ---- places
-
--- what is said at a position goes by its pattern and step
-pub same-place : (bank : List ℕ) (settings : Settings) (position other : Position) → position .pattern ≡ other .pattern → position .step ≡ other .step
-    → saidAt bank settings position ≡ saidAt bank settings other
-same-place bank settings position other h g = λ i. hereOf settings (placeOf bank (h i) (g i))
 
 -- by the settings of the bank it is what is said over a setup
 pub said-in : (setup : Setup) (position : Position) {settings : Settings} {here : Here} → Known (setup .bank) position settings here
@@ -48,12 +42,12 @@ pub said-in : (setup : Setup) (position : Position) {settings : Settings} {here 
 unfolding hereIn
 said-in setup position known = known .here-is ∙ rw (known .settings-are)
 
--- ---- tests
+pub first-in : (setup : Setup) (position : Position) {settings : Settings} {here : Here} → Known (setup .bank) position settings here
+    → firstAt (setup .bank) settings position ≡ firstIn setup position
+unfolding firstIn
+first-in setup position known = rw (known .settings-are)
 
-pub both-on : (x : Bool) → both x true ≡ x
-unfolding both
-both-on true = refl
-both-on false = refl
+-- ---- tests
 
 pub both-off : (x : Bool) → both x false ≡ false
 unfolding both

@@ -20,7 +20,7 @@ use Rattle.plain.specs.declared.Answer.{Answer}
 use Rattle.plain.specs.declared.Move.{Move}
 use Rattle.plain.specs.declared.Effect.{Effect}
 use Rattle.plain.specs.Record.{alarmsIn, sized}
-use Rattle.plain.specs.Setup.{Setup, settingsIn, hereIn}
+use Rattle.plain.specs.Setup.{Setup, settingsIn, hereIn, firstIn}
 use Rattle.plain.specs.Run.{movedTo, clearedBy, readableIn, tickBy, judging, judgedIn, tickCredit, tickSaves, commandCredit, returnRun}
 use Rattle.plain.specs.Refusals.{commandRows, commandMove, soundState}
 use Rattle.plain.specs.Event.{unchanged, refused, accepted, tickEffect, cutEffect, returnEffect, broughtBack, retainedIn, knownEffect, eventEffect}
@@ -82,7 +82,7 @@ module _ (setup : Setup) (power : Bool) (run : Run) (sound : soundState setup po
     pub press-on : (command : Command)
         → plainEffect setup power run (press command)
         ≡ onMove setup power run command
-        (commandMove (settingsIn setup) (hereIn setup (run .position)) (wholeOf (run .measured)) (run .position) command)
+        (commandMove (settingsIn setup) (hereIn setup (run .position)) (firstIn setup (run .position)) (wholeOf (run .measured)) (run .position) command)
     unfolding plainEffect commandMove both
     press-on command =
         rw (sound, alarms, is-on, both-off power)

@@ -8,6 +8,7 @@ use native.Mathlib.Omega.{arith}
 use Rattle.field.specs.Tab.{tab}
 use Rattle.setting.specs.declared.Settings.{Settings}
 use Rattle.position.specs.declared.Here.{Here}
+use Rattle.position.specs.Program.{saidAt}
 use Rattle.alarm.specs.declared.Alarms.{Alarms}
 use Rattle.alarm.specs.Idle.{allIdle}
 use Rattle.plain.specs.declared.Answer.{Answer}
@@ -25,7 +26,7 @@ use Rattle.making.specs.declared.Ran.{Ran}
 use Rattle.making.specs.Ran.{afterRan}
 use Rattle.effect.specs.declared.Done.{Done}
 use Rattle.effect.specs.declared.Moved.{Moved}
-use Rattle.effect.specs.Known.{saidAt, Known, Made}
+use Rattle.effect.specs.Known.{Known, Made}
 use Rattle.effect.specs.Done.{withAlarms, answerIn, creditIf, alarmsIf, effectOf, DoesTo}
 use Rattle.effect.specs.Ran.{stateFrom}
 

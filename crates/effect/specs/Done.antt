@@ -141,11 +141,17 @@ abbrev pub DoesTo : Setup → List ℕ → Bool → Progress → Event → Done 
 DoesTo setup store power progress event done alarms =
     effectOf setup store (withAlarms progress alarms) event done ≡ knownEffect setup store power (withAlarms progress alarms) event
 
--- what a tick and a command do: so it is over every setup, record and alarms on which the state is sound
+-- what a tick does: so it is over every setup, record and alarms on which the state is sound
 abbrev pub Does : Settings → Here → Bool → Progress → Event → Done → Type 0
 Does settings here power progress event done =
     (setup : Setup) (store : List ℕ) (alarms : Alarms) → Ready setup store power (withAlarms progress alarms) settings here
     → DoesTo setup store power progress event done alarms
+
+-- what a command does over a bank, which says where a run begins
+abbrev pub DoesPress : List ℕ → Settings → Here → Bool → Progress → Event → Done → Type 0
+DoesPress bank settings here power progress event done =
+    (config : Config) (store : List ℕ) (alarms : Alarms) → Ready (over bank config) store power (withAlarms progress alarms) settings here
+    → DoesTo (over bank config) store power progress event done alarms
 
 -- what a cut does, whatever is said
 abbrev pub DoesCut : Bool → Progress → Done → Type 0

@@ -7,10 +7,9 @@ use Prim.Native.Nat.{ℕ}
 use lib.ListN.{length}
 use Rattle.setting.specs.Setting.{settingsAt}
 use Rattle.setting.specs.declared.Settings.{Settings}
-use Rattle.bank.specs.View.{placeOf}
 use Rattle.position.specs.declared.Position.{Position}
 use Rattle.position.specs.declared.Here.{Here}
-use Rattle.position.specs.Program.{hereOf}
+use Rattle.position.specs.Program.{saidAt}
 use Rattle.alarm.specs.Alarm.{allInRange}
 use Rattle.alarm.specs.Idle.{allIdle}
 use Rattle.plain.specs.declared.Run.{Run}
@@ -22,10 +21,6 @@ use Rattle.plain.specs.Refusals.{soundState}
 use Rattle.plain.specs.Event.{State}
 use Rattle.plain.proofs.Standing.{Stands}
 use Rattle.making.specs.declared.Ran.{Ran}
-
--- what a bank says at a position, by its settings
-abbrev pub saidAt : List ℕ → Settings → Position → Here
-saidAt bank settings position = hereOf settings (placeOf bank (position .pattern) (position .step))
 
 -- the settings, and what is said at a position
 pub record Known (bank : List ℕ) (position : Position) (settings : Settings) (here : Here) : Type 0 where

@@ -11,7 +11,7 @@ use Rattle.plain.specs.Event.{State, After, after, eventsFrom}
 use Rattle.plain.specs.Listed.{askedEvents}
 use Rattle.making.specs.declared.Ran.{Ran}
 use Rattle.effect.specs.declared.Moved.{Moved}
-use Rattle.effect.specs.Known.{saidAt}
+use Rattle.position.specs.Program.{saidAt}
 use Rattle.effect.specs.Done.{withAlarms, answerBy, answerIn}
 
 -- what an event of a list moved, with the credits

@@ -1,6 +1,6 @@
 // What an event does: nothing but answer, or what an accepted event does; and its answer, with what is shown.
 ghost use mathlib.Core.Path.{_≡_};
-ghost use Rattle.effect.specs.Known.{saidAt, Known};
+ghost use Rattle.effect.specs.Known.{Known};
 ghost use Rattle.plain.specs.Setup.{over};
 ghost use Rattle.effect.specs.Done.{progressOf, withAlarms, refusedDone, acceptedDone, answerBy, effectOf};
 use crate::Done;
@@ -125,26 +125,6 @@ pub fn accepted(saves: bool, mut progress: Progress) -> Done
     }
 }
 
-// What is said at a position, where it is known at another: the bank is read only if pattern or step differ.
-pub fn here_after(
-    bank: &[u8],
-    settings: Settings,
-    here: Here,
-    before: Position,
-    position: Position,
-) -> Here
-    requires { ⌜ here ≡ saidAt (now bank) settings before ⌝ }
-    ensures { λ result. ⌜ result ≡ saidAt (now (bank .entry)) settings position ⌝ }
-{
-    if before.pattern != position.pattern {
-        return program::here_at(bank, settings, position.pattern, position.step);
-    }
-    if before.step != position.step {
-        return program::here_at(bank, settings, position.pattern, position.step);
-    }
-    here
-}
-
 // The answer: a refusal, or what is shown of a position.
 pub fn answered(
     settings: Settings,
@@ -190,7 +170,7 @@ pub fn effect_of(
     let position = progress.position;
     let accepted = done.accepted;
     let refusal = done.refusal;
-    let there = here_after(bank, settings, here, before, position);
+    let there = program::here_after(bank, settings, here, before, position);
     let idle = judge::idle(config.alarms, run.alarms);
     // What only moved alarms need is made where they move.
     let mut alarms = run.alarms;

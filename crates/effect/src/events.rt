@@ -64,7 +64,7 @@ pub fn known(
     let from = by_parts(progress);
     match event {
         Event::Tick(reading) => tick(settings, here, power, from, reading),
-        Event::Press(pressed) => press(settings, here, power, from, pressed),
+        Event::Press(pressed) => press(bank, settings, here, power, from, pressed),
         Event::Cut => cut(power, from),
         Event::Return(reading) => restore(bank, settings, store, power, from, bounded, reading),
     }
@@ -120,7 +120,13 @@ pub fn event(
     };
     let settings = setting::read_settings(bank);
     let position = run.position;
-    let here = program::here_at(bank, settings, position.pattern, position.step);
+    let here = program::here_at(
+        bank,
+        settings,
+        position.pattern,
+        position.step,
+        position.pass,
+    );
     if power & !sound(config, settings, here, run) {
         return unchanged(power, run, Answer::Refused(Refusal::Unsound));
     }

@@ -10,7 +10,6 @@ ghost use Rattle.effect.specs.Ran.{stateFrom, ranBy, turnOf, afterMoved,
 use crate::Moved;
 use crate::answers::answered;
 use crate::answers::by_parts;
-use crate::answers::here_after;
 use crate::answers::progress_of;
 use crate::answers::with_alarms;
 use crate::beside::alarms_by;
@@ -59,7 +58,7 @@ fn turn(
     let position = left.position;
     let accepted = done.accepted;
     let refusal = done.refusal;
-    let there = here_after(bank, settings, here, before, position);
+    let there = program::here_after(bank, settings, here, before, position);
     let mut alarms = moved.alarms;
     let mut idle = moved.idle;
     if !keeps(accepted, idle, event) {
@@ -115,7 +114,13 @@ pub fn run_from(bank: &[u8], config: Config, store: &mut [u8], made: Ran, bytes:
         progress: progress_of(run),
         alarms,
         idle: judge::idle(config.alarms, alarms),
-        here: program::here_at(bank, settings, position.pattern, position.step),
+        here: program::here_at(
+            bank,
+            settings,
+            position.pattern,
+            position.step,
+            position.pass,
+        ),
         accepted: true,
         refusal: Refusal::Unsound, // none
     };

@@ -57,7 +57,13 @@ pub fn restore(
     }
     let back = brought_back(store);
     let position = back.position;
-    let there = program::here_at(bank, settings, position.pattern, position.step);
+    let there = program::here_at(
+        bank,
+        settings,
+        position.pattern,
+        position.step,
+        position.pass,
+    );
     let readable = command::readable(settings, there, position) & bounded;
     if !readable {
         return refused(power, progress, Refusal::Unreadable);

@@ -21,10 +21,9 @@ use Rattle.setting.specs.declared.Checked.{Checked}
 use Rattle.setting.specs.declared.Checked.the-variants.{Accepted, Short, Setting, Pair, Body}
 use Rattle.setting.specs.declared.Settings.{Settings}
 use Rattle.bank.specs.Check.{foundIn}
-use Rattle.bank.specs.View.{placeOf}
 use Rattle.position.specs.declared.Position.{Position}
 use Rattle.position.specs.declared.Here.{Here}
-use Rattle.position.specs.Program.{hereOf}
+use Rattle.position.specs.Program.{saidAt}
 use Rattle.plain.specs.declared.Run.{Run}
 use Rattle.plain.specs.declared.Event.{Event}
 use Rattle.plain.specs.declared.Asked.{Asked}
@@ -57,9 +56,9 @@ small number h = toZ-pos w64 h
 
 -- what a bank says at a position, of its settings and its place
 pub here-is : (setup : Setup) (position : Position) {settings : Settings} {here : Here} → settings ≡ settingsIn setup
-    → here ≡ hereOf settings (placeOf (setup .bank) (position .pattern) (position .step)) → here ≡ hereIn setup position
+    → here ≡ saidAt (setup .bank) settings position → here ≡ hereIn setup position
 unfolding hereIn
-here-is setup position h g = g ∙ ap (λ (x : Settings). hereOf x (placeOf (setup .bank) (position .pattern) (position .step))) h
+here-is setup position h g = g ∙ ap (λ (x : Settings). saidAt (setup .bank) x position) h
 
 -- the first of three numbers, as many as a list of at most three has, are the list's
 pub first-ones : (xs : List ℕ) → length xs ≤ 3 → take (length xs) (pos (getD xs 0 0) ∷ pos (getD xs 1 0) ∷ pos (getD xs 2 0) ∷ []) ≡ map pos xs

@@ -18,7 +18,13 @@ pub fn put_eight(bank: &[u8], number: u8, run: Run, out: &mut [u8], at: usize) -
 {
     let position = run.position;
     let settings = setting::read_settings(bank);
-    let here = program::here_at(bank, settings, position.pattern, position.step);
+    let here = program::here_at(
+        bank,
+        settings,
+        position.pattern,
+        position.step,
+        position.pass,
+    );
     let numbers = [
         number as i64,
         position.mode as i64,

@@ -53,7 +53,13 @@ fn begin(bank: &[u8], store: &mut [u8]) -> Ran
     let credits = [0u32; 99];
     checkpoint::write(store, position, credits, run.alarms);
     let settings = setting::read_settings(bank);
-    let here = program::here_at(bank, settings, position.pattern, position.step);
+    let here = program::here_at(
+        bank,
+        settings,
+        position.pattern,
+        position.step,
+        position.pass,
+    );
     let values = program::shown(settings, here, position);
     Ran {
         power: true,

@@ -34,7 +34,7 @@ use Rattle.plain.specs.declared.Refusal.{Refusal}
 use Rattle.plain.specs.declared.Answer.{Answer}
 use Rattle.plain.specs.declared.Effect.{Effect}
 use Rattle.plain.specs.Record.{widthsOf, numbersIn, Checkpoint, creditWidths, recordSize, creditsFrom, alarmsFrom, recordOf, creditsIn, sized}
-use Rattle.plain.specs.Setup.{Setup, Usable, settingsIn, hereIn}
+use Rattle.plain.specs.Setup.{Setup, Usable, settingsIn, hereIn, firstIn}
 use Rattle.plain.specs.Answer.{numberOf}
 use Rattle.plain.specs.Run.{readableIn, soundBy, soundIn, shownIn, cooked, credited, measuring, counting, stepping, tickBy, judging, tickRun, tickCredit}
 use Rattle.plain.specs.Run.{tickSaves, commandRun, commandCredit, returnBy, returnRun}
@@ -113,18 +113,20 @@ module _ (setup : Setup) (run : Run) (reading : Reading) where
 
 -- no command is ignored: the position that it leaves is the command's
 pub press-moves : (setup : Setup) (run : Run) (command : Command)
-    → pressEffect setup run command .run .position
-    ≡ commandPosition (settingsIn setup) (hereIn setup (run .position)) (wholeOf (run .measured)) (run .position) command
+    → let position = run .position in
+    pressEffect setup run command .run .position
+    ≡ commandPosition (settingsIn setup) (hereIn setup position) (firstIn setup position) (wholeOf (run .measured)) position command
 press-moves setup run command = refl
 
 -- and its credit is the command's own, wherever it moves e: plus is not cooked time
 pub press-credit : (setup : Setup) (run : Run) (command : Command) → pressEffect setup run command .credit ≡ commandCredit command
 press-credit setup run command = refl
 
--- a start clears flags and counts, and so does any move to stopped: select, reset, and a return with choice 0
+-- a start clears flags and counts, at whichever step it begins; and so does any move to stopped: select, reset, and a return with choice 0
 pub start-clears : (setup : Setup) (run : Run) → commandRun setup Command.Start run .alarms ≡ allClear
-unfolding isStart takesOf either commandPosition keptIn
-start-clears setup run = refl
+unfolding isStart takesOf either keptIn
+start-clears setup run =
+    choice (λ (alarms : Alarms). alarms ≡ allClear) (eqb (commandRun setup Command.Start run .position .mode) 0) (λ _. refl) (λ _. refl)
 
 pub stop-clears : (setup : Setup) (run : Run) (q : ℤ)
     → (commandRun setup (Command.Select q) run .alarms ≡ allClear) × (commandRun setup Command.Reset run .alarms ≡ allClear)

@@ -24,7 +24,7 @@ use Rattle.bank.proofs.Facts.{test-holds, then-holds, not-setting, parts, count
 use Rattle.bank.proofs.Facts.{step-is-right, step-none, numbered-none, numbered-past, all-fit}
 use Rattle.position.specs.declared.Position.{Position}
 use Rattle.position.specs.Tests.{numbered}
-use Rattle.position.specs.Program.{limitOf, hereOf}
+use Rattle.position.specs.Program.{limitOf, hereBy, isTimer, hereAt}
 use Rattle.position.proofs.SetValue.{within-range}
 use Rattle.position.proofs.Keeps.{Fair}
 use Rattle.plain.specs.Setup.{Setup, settingsIn, hereIn}
@@ -174,21 +174,22 @@ module _ (setup : Setup) (ok : foundIn (setup .bank) ≡ Accepted) where
 
   module _ (position : Position) where
     pub target-fine : temperature (hereIn setup position .target) ≡ true
-    unfolding hereIn hereOf placeOf
+    unfolding hereIn hereAt hereBy placeOf
     target-fine = step-fine (setup .bank) ok (position .pattern) (position .step) .target
 
     pub some-pass : 1 ≤ hereIn setup position .limit
-    unfolding hereIn hereOf placeOf
+    unfolding hereIn hereAt hereBy placeOf
     some-pass = limit-fine (setup .bank) ok (position .pattern) .0
 
     pub fair : Fair (settingsIn setup) (hereIn setup position)
-    unfolding hereIn hereOf placeOf
+    unfolding hereIn hereAt hereBy placeOf
     fair =
-        let step = stepOf (setup .bank) (position .pattern) (position .step) in
+        let place = placeOf (setup .bank) (position .pattern) (position .step) in
+        let timer = isTimer (settingsIn setup) (place .step .target) (position .step) (position .pass) in
         record {
           patterns = patterns-range .1;
           count = count-fine (setup .bank) ok (position .pattern);
           limit = limit-fine (setup .bank) ok (position .pattern) .1;
           time = omega (arith, step-fine (setup .bank) ok (position .pattern) (position .step) .minutes);
-          wait = omega (arith, waits-fine (setup .bank) ok (step .wait));
+          wait = omega (arith, waits-fine (setup .bank) ok (cond timer 0 (place .step .wait)));
         }

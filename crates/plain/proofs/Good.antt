@@ -17,14 +17,14 @@ use Rattle.measure.specs.declared.Reading.{Reading}
 use Rattle.measure.specs.declared.Whole.{Whole}
 use Rattle.measure.proofs.Laws.{after-sound, first-sound, whole-range, Fits64, after-fits, first-fits}
 use Rattle.position.specs.Tests.{all}
-use Rattle.position.specs.Program.{hereOf, limitOf, secondPosition, tickPosition}
+use Rattle.position.specs.Program.{limitOf, hereBy, hereAt, secondPosition, tickPosition}
 use Rattle.position.specs.Command.{selectsOf, isStart, isValue, valueOf, startBase, lacksValue, stuckOf, startPosition, commandPosition}
 use Rattle.position.specs.Return.{readableOf}
 use Rattle.position.specs.declared.Position.{Position}
 use Rattle.position.specs.declared.Command.{Command}
 use Rattle.position.proofs.Tests.{either-false, choice}
 use Rattle.position.proofs.Cases.{next-cases, tick-cases}
-use Rattle.position.proofs.Laws.{second-keeps, tick-pattern, feed-pattern, back-pattern, plus-pattern, minus-pattern, pause-pattern, return-pattern}
+use Rattle.position.proofs.Laws.{second-keeps, tick-pattern, start-pattern, feed-pattern, back-pattern, plus-pattern, minus-pattern, pause-pattern, return-pattern}
 use Rattle.position.proofs.Readable.{readable-pattern}
 use Rattle.position.proofs.Keeps.{Along, Bounded, bounded, taken-active, tick-stays, return-stays, start-stays, pause-stays, feed-stays}
 use Rattle.position.proofs.Keeps.{back-stays, plus-stays, minus-stays, stop-stays}
@@ -33,7 +33,7 @@ use Rattle.alarm.specs.declared.Alarms.{Alarms}
 use Rattle.alarm.proofs.Bounds.{tick-bounded, mode-bounded, kept-bounded, clear-bounded}
 use Rattle.plain.specs.declared.Run.{Run}
 use Rattle.plain.specs.declared.Effect.{Effect}
-use Rattle.plain.specs.Setup.{Setup, settingsIn, hereIn}
+use Rattle.plain.specs.Setup.{Setup, settingsIn, hereIn, firstIn}
 use Rattle.plain.specs.Run.{readableIn, soundBy, soundIn, measuring, counting, stepping, tickBy, judging, tickRun}
 use Rattle.plain.specs.Run.{tickCredit, tickSaves, clearedBy, commandRun, returnBy, returnRun}
 use Rattle.plain.specs.Event.{accepted, fresh}
@@ -63,13 +63,18 @@ selected (negsuc size) top holds = absurd (false≢true holds)
 module _ (setup : Setup) where
   -- what is said at a position of the same pattern
   along : (position other : Position) → other .pattern ≡ position .pattern → Along (hereIn setup position) (hereIn setup other) position other
-  unfolding hereIn hereOf placeOf
+  unfolding hereIn hereAt hereBy placeOf
   along position other holds =
       record {
         count = ap (λ (p : ℕ). patternOf (setup .bank) p .count) holds;
         limit = ap (λ (p : ℕ). limitOf (patternOf (setup .bank) p .runs)) holds;
-        same = λ step. λ i. hereOf (settingsIn setup) (placeOf (setup .bank) (holds i) (step i));
+        same = λ step pass. λ i. hereAt (settingsIn setup) (placeOf (setup .bank) (holds i) (step i)) (step i) (pass i);
       }
+
+  -- and where a run of that pattern begins
+  pub first-count : (position other : Position) → other .pattern ≡ position .pattern → firstIn setup position .count ≡ hereIn setup other .count
+  unfolding hereIn firstIn hereAt hereBy placeOf
+  first-count position other holds = ap (λ (p : ℕ). patternOf (setup .bank) p .count) (sym holds)
 
   -- ---- good runs and states
 
@@ -199,10 +204,13 @@ module _ (setup : Setup) where
         stop-stays (settingsIn setup) _ (natAbs q) (range .0) (range .1)
     command-readable Command.Start takes =
         let some = eqb-false (hereIn setup (run .position) .count) 0 (takes .some-step) in
-        let there = startPosition (run .position) (startBase (settingsIn setup) (wholeOf (run .measured))) in
-        let same = along (run .position) there refl .count in
-        start-stays (settingsIn setup) (hereIn setup (run .position)) (hereIn setup there) (run .position) (good .readable) (there .base)
-        (omega (arith, same, some)) (some-pass setup ok there) (base-fine (takes .some-value))
+        let first = firstIn setup (run .position) in
+        let b = startBase (settingsIn setup) (wholeOf (run .measured)) in
+        let there = startPosition (settingsIn setup) first (run .position) b in
+        let pattern = start-pattern first (run .position) (settingsIn setup) b in
+        let same = along (run .position) there pattern .count in
+        start-stays (settingsIn setup) (hereIn setup (run .position)) (hereIn setup there) (run .position) (good .readable) first b
+        (first-count (run .position) there pattern) (omega (arith, same, some)) (some-pass setup ok there) (base-fine (takes .some-value))
     command-readable Command.Pause takes =
         kept _ (pause-pattern (hereIn setup (run .position)) (run .position))
         (pause-stays (settingsIn setup) (hereIn setup (run .position)) _ (run .position) (good .readable) (sym (taken-active (run .position) .pause) ∙ takes .takes))

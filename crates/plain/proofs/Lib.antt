@@ -9,4 +9,5 @@ pub mod Counted
 pub mod Standing
 pub mod Effects
 pub mod Against
+pub mod Timer
 pub mod Cases

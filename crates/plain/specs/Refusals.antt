@@ -102,8 +102,8 @@ eventRows setup retained power run event =
     ++ (Refusal.Unreadable, both (isReturn event) (not (retained .readable)))
     ∷ []
 
--- ---- a command on a position: 26 to 30, or where it goes
-unfoldable pub commandMove : Settings → Here → Whole → Position → Command → Move
-commandMove settings here whole position command =
+-- ---- a command on a position: 26 to 30, or where it goes. `first` is what the bank says at step 1 in pass 1
+unfoldable pub commandMove : Settings → Here → Here → Whole → Position → Command → Move
+commandMove settings here first whole position command =
     judged (commandRows settings here whole position command) Move.No
-    (Move.To (commandPosition settings here whole position command))
+    (Move.To (commandPosition settings here first whole position command))

@@ -21,7 +21,7 @@ use Rattle.alarm.specs.Alarm.{allClear, keptIn, tickAlarms, allBounded}
 use Rattle.plain.specs.declared.Run.{Run}
 use Rattle.plain.specs.declared.Credit.{Credit}
 use Rattle.plain.specs.declared.Config.{Config}
-use Rattle.plain.specs.Setup.{Setup, settingsIn, hereIn}
+use Rattle.plain.specs.Setup.{Setup, settingsIn, hereIn, firstIn}
 
 -- ---- a run: all of the state that an event moves, but power and credits
 
@@ -149,8 +149,9 @@ clearedBy command run =
 
 abbrev pub commandRun : Setup → Command → Run → Run
 commandRun setup command run =
+    let position = run .position in
     movedTo (clearedBy command run)
-    (commandPosition (settingsIn setup) (hereIn setup (run .position)) (wholeOf (run .measured)) (run .position) command)
+    (commandPosition (settingsIn setup) (hereIn setup position) (firstIn setup position) (wholeOf (run .measured)) position command)
 
 -- start sets the credits to 0
 abbrev pub commandCredit : Command → Credit

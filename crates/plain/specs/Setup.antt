@@ -8,10 +8,9 @@ use Rattle.setting.specs.Setting.{settingsAt}
 use Rattle.setting.specs.declared.Settings.{Settings}
 use Rattle.setting.specs.declared.Checked.{Checked}
 use Rattle.bank.specs.Check.{foundIn}
-use Rattle.bank.specs.View.{placeOf}
 use Rattle.position.specs.declared.Position.{Position}
 use Rattle.position.specs.declared.Here.{Here}
-use Rattle.position.specs.Program.{hereOf}
+use Rattle.position.specs.Program.{saidAt, firstAt}
 use Rattle.alarm.specs.Alarm.{allInRange}
 use Rattle.plain.specs.declared.Config.{Config}
 
@@ -31,6 +30,10 @@ pub record Usable (setup : Setup) : Type 0 where
 abbrev pub settingsIn : Setup → Settings
 settingsIn setup = settingsAt (setup .bank)
 
--- what the bank says at a position: at its pattern and step
+-- what the bank says at a position: at its pattern and step, in its pass
 unfoldable pub hereIn : Setup → Position → Here
-hereIn setup position = hereOf (settingsIn setup) (placeOf (setup .bank) (position .pattern) (position .step))
+hereIn setup position = saidAt (setup .bank) (settingsIn setup) position
+
+-- and where a run of its pattern begins: at step 1 in pass 1
+unfoldable pub firstIn : Setup → Position → Here
+firstIn setup position = firstAt (setup .bank) (settingsIn setup) position

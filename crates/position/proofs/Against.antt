@@ -17,7 +17,7 @@ use Rattle.position.specs.declared.Position.{Position}
 use Rattle.position.specs.declared.Here.{Here}
 use Rattle.position.specs.declared.Command.{Command}
 use Rattle.position.specs.Tests.{both, either, apart, numbered}
-use Rattle.position.specs.Program.{timed, placed, limitOf, hereOf, active, toward, rampOf, setValueOf, nearOf, pastOf, inZoneOf, secondPosition, leavesOf}
+use Rattle.position.specs.Program.{timed, placed, limitOf, hereBy, hereOf, active, toward, rampOf, setValueOf, nearOf, pastOf, inZoneOf, secondPosition, leavesOf}
 use Rattle.position.specs.Program.{endPosition, nextPosition, tickPosition, signalOf}
 use Rattle.position.specs.Command.{withMode, takesOf, stopPosition, startBase, valueOf, pausePosition, feedPosition, backPosition, plusMoves, plusPosition}
 use Rattle.position.specs.Command.{minusMoves, minusPosition}
@@ -39,11 +39,11 @@ no-runs = refl
 
 -- 6,000 minutes are endless, and 5,999 are not
 pub endless-is : (settings : Settings) (place : Place) → place .step .minutes ≡ 6000 → hereOf settings place .endless ≡ true
-unfolding hereOf
+unfolding hereOf hereBy
 endless-is settings place holds = eq-eqb _ _ holds
 
 pub not-endless : (settings : Settings) (place : Place) → place .step .minutes ≤ 5999 → hereOf settings place .endless ≡ false
-unfolding hereOf
+unfolding hereOf hereBy
 not-endless settings place holds = ne-eqb (place .step .minutes) 6000 (λ same. omega arith)
 
 -- ---- the set value

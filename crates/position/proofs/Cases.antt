@@ -5,13 +5,14 @@ use mathlib.Core.Path.{_≡_}
 use mathlib.Core.Bool.{true, false, not}
 use borrow.Author.Tests.{ltb-true, ltb-false, eqb-true, eqb-false, leb-true, leb-false, not-false}
 use lib.Dec.{eqb, ltb, leb}
+use lib.IntN.{ℤ}
 use Rattle.setting.specs.declared.Settings.{Settings}
 use Rattle.measure.specs.declared.Whole.{Whole}
 use Rattle.position.specs.declared.Position.{Position}
 use Rattle.position.specs.declared.Here.{Here}
-use Rattle.position.specs.Tests.{both}
+use Rattle.position.specs.Tests.{both, either}
 use Rattle.position.specs.Program.{timed, placed, active, setValueOf, secondPosition, leavesOf, nextPosition, endPosition, tickPosition}
-use Rattle.position.specs.Command.{withMode, stopPosition, pausePosition, feedPosition, backPosition, plusPosition, minusPosition}
+use Rattle.position.specs.Command.{withMode, stopPosition, beginPosition, startPosition, pausePosition, feedPosition, backPosition, plusPosition, minusPosition}
 use Rattle.position.specs.Return.{goesOn, returnPosition}
 use Rattle.position.proofs.Tests.{choice}
 
@@ -44,6 +45,15 @@ module _ (P : Position → Type 0) (here : Here) (position : Position) where
       choice P (eqb (position .mode) 1)
       (λ holds. choice P (leavesOf here whole (secondPosition here position)) (second (eqb-true _ _ holds)) (third (eqb-true _ _ holds)))
       (λ holds. first (eqb-false _ _ holds))
+
+  -- of the start `here` is what the bank says at step 1 in pass 1
+  pub start-cases : (settings : Settings) (b : ℤ)
+      → P (beginPosition position 1 b) → (1 < here .count → P (beginPosition position 2 b)) → P (endPosition (beginPosition position 1 b))
+      → P (startPosition settings here position b)
+  unfolding startPosition
+  start-cases settings b first second third =
+      choice P (either (not (eqb (settings .start) 0)) (here .timer)) (λ _. first)
+      (λ _. choice P (ltb 1 (here .count)) (λ holds. second (ltb-true _ _ holds)) (λ _. third))
 
   pub feed-cases : P (endPosition position) → P (nextPosition here position) → P (feedPosition here position)
   unfolding feedPosition

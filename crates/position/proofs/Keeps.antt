@@ -14,10 +14,10 @@ use Rattle.position.specs.declared.Here.{Here}
 use Rattle.position.specs.declared.Command.{Command}
 use Rattle.position.specs.Tests.{both, either, within, temperature}
 use Rattle.position.specs.Program.{timed, placed, active, setValueOf, secondPosition, tickPosition}
-use Rattle.position.specs.Command.{withMode, takesOf, stopPosition, startPosition, pausePosition, feedPosition, backPosition, plusMoves, plusPosition, minusMoves, minusPosition}
+use Rattle.position.specs.Command.{withMode, takesOf, stopPosition, beginPosition, startPosition, pausePosition, feedPosition, backPosition, plusMoves, plusPosition, minusMoves, minusPosition}
 use Rattle.position.specs.Return.{returnPosition, timesRight, readableOf}
 use Rattle.position.proofs.Tests.{choice, chosen, otherwise, both-left, both-right}
-use Rattle.position.proofs.Cases.{tick-cases, feed-cases, back-cases, pause-cases, return-cases, plus-cases, minus-cases}
+use Rattle.position.proofs.Cases.{tick-cases, start-cases, feed-cases, back-cases, pause-cases, return-cases, plus-cases, minus-cases}
 use Rattle.position.proofs.Laws.{running-active, active-modes, set-range, second-keeps, plus-keeps, minus-keeps}
 use Rattle.position.proofs.Readable as R
 use Rattle.position.proofs.Stays as S
@@ -119,20 +119,20 @@ pub taken-active : (position : Position) → Taken position
 unfolding takesOf active
 taken-active position = record { pause = refl; feed = refl; back = refl; plus = refl; minus = refl }
 
--- what is said there of the position `other` that a move makes of `position`: of the same pattern, and the same where the step is the same
+-- what is said there of the position `other` that a move makes of `position`: of the same pattern, and the same where step and pass are the same
 pub record Along (here there : Here) (position other : Position) : Type 0 where
   pub count : there .count ≡ here .count
   pub limit : there .limit ≡ here .limit
-  pub same : other .step ≡ position .step → there ≡ here
+  pub same : other .step ≡ position .step → other .pass ≡ position .pass → there ≡ here
 
 module _ (settings : Settings) (here there : Here) (position : Position) (holds : readableOf settings here position ≡ true) where
   -- readable after a move
   abbrev Stays : Position → Type 0
   Stays other = Along here there position other → readableOf settings there other ≡ true
 
-  -- a position with the same step, readable here, is readable there
-  stay : (other : Position) → other .step ≡ position .step → readableOf settings here other ≡ true → Stays other
-  stay other known readable along = subst (λ (at : Here). readableOf settings at other ≡ true) (sym (along .same known)) readable
+  -- a position with the same step and pass, readable here, is readable there
+  stay : (other : Position) → other .step ≡ position .step → other .pass ≡ position .pass → readableOf settings here other ≡ true → Stays other
+  stay other step pass readable along = subst (λ (at : Here). readableOf settings at other ≡ true) (sym (along .same step pass)) readable
 
   pub tick-stays : (whole : Whole) → temperature (here .target) ≡ true → Stays (tickPosition here whole position)
   unfolding active
@@ -140,7 +140,7 @@ module _ (settings : Settings) (here there : Here) (position : Position) (holds 
       let after = secondPosition here position in
       let kept = second-keeps here position in
       tick-cases Stays here position whole
-      (λ _. stay position refl holds)
+      (λ _. stay position refl refl holds)
       (λ running _ along.
       let runs = running-active position running in
       let not-stopped = active-modes position runs .0 in
@@ -149,7 +149,7 @@ module _ (settings : Settings) (here there : Here) (position : Position) (holds 
       (subst (λ (moved : Position). temperature (moved .base) ≡ true) (sym kept) (R.base-range settings here position not-stopped holds)) aimed)
       (λ running not-left.
       let runs = running-active position running in
-      stay after (ap (λ (moved : Position). moved .step) kept)
+      stay after (ap (λ (moved : Position). moved .step) kept) (ap (λ (moved : Position). moved .pass) kept)
       (S.kept-readable settings here position runs holds after kept
       (S.second-times here whole position (R.times-right settings here position runs holds) not-left)))
 
@@ -158,16 +158,31 @@ module _ (settings : Settings) (here there : Here) (position : Position) (holds 
   return-stays whole =
       let pattern = R.readable-pattern settings here position holds in
       return-cases Stays here position settings whole
-      (stay position refl holds)
+      (stay position refl refl holds)
       (λ _ _. S.stopped settings there (position .pattern) (pattern .0) (pattern .1))
-      (λ runs. stay (withMode position 2) refl (S.mode-readable settings here position runs holds 2 refl))
+      (λ runs. stay (withMode position 2) refl refl (S.mode-readable settings here position runs holds 2 refl))
 
-  pub start-stays : (b : ℤ) → 1 ≤ there .count → 1 ≤ there .limit → temperature b ≡ true → readableOf settings there (startPosition position b) ≡ true
+  -- a start, at whichever step it begins, or at its end; `first` is said of the same pattern
+  pub start-stays : (first : Here) (b : ℤ) → first .count ≡ there .count → 1 ≤ there .count → 1 ≤ there .limit → temperature b ≡ true
+      → readableOf settings there (startPosition settings first position b) ≡ true
   unfolding active either
-  start-stays b some-step some-pass based =
-      let pattern = R.readable-pattern settings here position holds in
-      S.fresh settings there (startPosition position b) refl refl refl
-      (record { pattern-low = pattern .0; pattern-high = pattern .1; step-low = omega arith; step-high = some-step; pass-low = omega arith; pass-high = some-pass }) based
+  start-stays first b same some-step some-pass based =
+      start-cases (λ (other : Position). readableOf settings there other ≡ true) first position settings b
+      (S.fresh settings there (beginPosition position 1 b) refl refl refl (begun 1 (omega arith) some-step) based)
+      (λ more. S.fresh settings there (beginPosition position 2 b) refl refl refl (begun 2 (omega arith) (omega arith)) based)
+      (S.ended settings there (beginPosition position 1 b) (begun 1 (omega arith) some-step))
+    where
+      begun : (k : ℕ) → 1 ≤ k → k ≤ there .count → R.Placed settings there (position .pattern) k 1
+      begun k low high =
+          let pattern = R.readable-pattern settings here position holds in
+          record {
+            pattern-low = pattern .0;
+            pattern-high = pattern .1;
+            step-low = low;
+            step-high = high;
+            pass-low = omega arith;
+            pass-high = some-pass;
+          }
 
   -- the commands that modes 1 and 2 take
   module _ (runs : active position ≡ true) where
@@ -175,8 +190,8 @@ module _ (settings : Settings) (here there : Here) (position : Position) (holds 
     unfolding active either
     pause-stays =
         pause-cases Stays here position
-        (stay (withMode position 2) refl (S.mode-readable settings here position runs holds 2 refl))
-        (stay (withMode position 1) refl (S.mode-readable settings here position runs holds 1 refl))
+        (stay (withMode position 2) refl refl (S.mode-readable settings here position runs holds 2 refl))
+        (stay (withMode position 1) refl refl (S.mode-readable settings here position runs holds 1 refl))
 
     pub feed-stays : temperature (here .target) ≡ true → Stays (feedPosition here position)
     feed-stays aimed along =
@@ -200,11 +215,13 @@ module _ (settings : Settings) (here there : Here) (position : Position) (holds 
         (S.elsewhere here-placed (position .step - 1) (position .pass) (omega arith) (omega (arith, along .count, here-placed .step-high)) (here-placed .pass-low)
         (omega (arith, along .limit, here-placed .pass-high)))
         (set-range here position aimed based))
-        (stay (timed position 0 0) refl (S.fresh settings here (timed position 0 0) runs refl refl here-placed based))
+        (stay (timed position 0 0) refl refl (S.fresh settings here (timed position 0 0) runs refl refl here-placed based))
 
     -- a move that keeps all but the times, and has them right
     retimed : (other : Position) → other ≡ timed position (other .elapsed) (other .waited) → timesRight here other ≡ true → Stays other
-    retimed other kept times = stay other (ap (λ (moved : Position). moved .step) kept) (S.kept-readable settings here position runs holds other kept times)
+    retimed other kept times =
+        stay other (ap (λ (moved : Position). moved .step) kept) (ap (λ (moved : Position). moved .pass) kept)
+        (S.kept-readable settings here position runs holds other kept times)
 
     pub plus-stays : plusMoves here position ≡ true → Stays (plusPosition here position)
     unfolding plusMoves

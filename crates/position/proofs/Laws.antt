@@ -1,7 +1,7 @@
 -- The laws of a position: modes 1 and 2, the set value, and what a second, next, a tick, a command and a return leave. Assumes nothing.
 use Prim.Native.Nat.{_≤_}
 use mathlib.Core.Path.{_≡_, refl, ap, _∙_}
-use mathlib.Core.Bool.{true, false}
+use mathlib.Core.Bool.{true, false, cond}
 use mathlib.Core.Logic.{_⊎_, inl, inr, ⊎-elim}
 use native.Mathlib.Omega.{arith}
 use borrow.Author.Tests.{eq-eqb, eqb-true, ne-eqb}
@@ -13,12 +13,12 @@ use Rattle.measure.specs.declared.Whole.{Whole}
 use Rattle.position.specs.declared.Position.{Position}
 use Rattle.position.specs.declared.Here.{Here}
 use Rattle.position.specs.Tests.{both, either, within, temperature}
-use Rattle.position.specs.Program.{timed, active, setValueOf, secondPosition, nextPosition, tickPosition}
-use Rattle.position.specs.Command.{withMode, stopPosition, pausePosition, feedPosition, backPosition, plusPosition, minusPosition}
+use Rattle.position.specs.Program.{timed, active, rampOf, setValueOf, secondPosition, nextPosition, tickPosition}
+use Rattle.position.specs.Command.{withMode, stopPosition, startPosition, pausePosition, feedPosition, backPosition, plusPosition, minusPosition}
 use Rattle.position.specs.Return.{returnPosition}
-use Rattle.position.proofs.Tests.{either-cases, either-left, choice}
-use Rattle.position.proofs.SetValue.{ramp-at-once, ramp-at-end, ramp-within, ramp-within-down, ramp-range}
-use Rattle.position.proofs.Cases.{second-cases, next-cases, tick-cases, feed-cases, back-cases, plus-cases, minus-cases, pause-cases, return-cases}
+use Rattle.position.proofs.Tests.{either-cases, either-left, both-true, choice}
+use Rattle.position.proofs.SetValue.{le-refl, above, ramp-at-once, ramp-at-end, ramp-within, ramp-within-down, ramp-range}
+use Rattle.position.proofs.Cases.{second-cases, next-cases, tick-cases, start-cases, feed-cases, back-cases, plus-cases, minus-cases, pause-cases, return-cases}
 
 -- ---- modes 1 and 2
 
@@ -43,32 +43,50 @@ module _ (here : Here) (position : Position) where
   unfolding setValueOf
   set-idle runs = rw runs
 
+  -- in a plain step it is the ramp's, as before there was a timer
+  pub set-plain : here .timer ≡ false → setValueOf here position ≡ cond (active position) (rampOf here (position .base) (position .elapsed)) (pos 0)
+  unfolding setValueOf
+  set-plain plain = rw plain
+
   module _ (runs : active position ≡ true) where
-    -- where T = 0 or the step is endless it is the target
-    pub set-at-once : either (eqb (here .time) 0) (here .endless) ≡ true → setValueOf here position ≡ here .target
+    -- in the timer it is b, whatever the step's time
+    pub set-timer : here .timer ≡ true → setValueOf here position ≡ position .base
     unfolding setValueOf
-    set-at-once holds = rw runs (ramp-at-once here (position .base) (position .elapsed) holds)
+    set-timer timer = rw (runs, timer)
+
+    -- of a plain step: where T = 0 or it is endless the target
+    pub set-at-once : here .timer ≡ false → either (eqb (here .time) 0) (here .endless) ≡ true → setValueOf here position ≡ here .target
+    set-at-once plain holds = set-plain plain ∙ rw runs (ramp-at-once here (position .base) (position .elapsed) holds)
 
     module _ (based : temperature (position .base) ≡ true) (aimed : temperature (here .target) ≡ true) where
-      -- at e = T it is the target
-      pub set-at-end : position .elapsed ≡ here .time → setValueOf here position ≡ here .target
-      unfolding setValueOf
-      set-at-end holds = rw runs (ramp-at-end here (position .base) (position .elapsed) based aimed (omega arith))
+      -- at e = T the target
+      pub set-at-end : here .timer ≡ false → position .elapsed ≡ here .time → setValueOf here position ≡ here .target
+      set-at-end plain holds = set-plain plain ∙ rw runs (ramp-at-end here (position .base) (position .elapsed) based aimed (omega arith))
 
       -- it lies between base and target
       pub set-within : leZ (position .base) (here .target) ≡ true → within (position .base) (setValueOf here position) (here .target) ≡ true
-      unfolding setValueOf
-      set-within holds = rw runs (ramp-within here (position .base) (position .elapsed) based aimed holds)
+      unfolding setValueOf within
+      set-within holds =
+          rw runs
+          (choice (λ (value : ℤ). within (position .base) value (here .target) ≡ true) (here .timer)
+          (λ _. both-true _ _ (le-refl (position .base)) holds)
+          (λ _. ramp-within here (position .base) (position .elapsed) based aimed holds))
 
       pub set-within-down : leZ (position .base) (here .target) ≡ false → within (here .target) (setValueOf here position) (position .base) ≡ true
-      unfolding setValueOf
-      set-within-down holds = rw runs (ramp-within-down here (position .base) (position .elapsed) based aimed holds)
+      unfolding setValueOf within
+      set-within-down holds =
+          rw runs
+          (choice (λ (value : ℤ). within (here .target) value (position .base) ≡ true) (here .timer)
+          (λ _. both-true _ _ (above (position .base) (here .target) holds) (le-refl (position .base)))
+          (λ _. ramp-within-down here (position .base) (position .elapsed) based aimed holds))
 
   -- so it is in the temperature range, in every mode
   pub set-range : temperature (here .target) ≡ true → temperature (position .base) ≡ true → temperature (setValueOf here position) ≡ true
   unfolding setValueOf temperature within both
   set-range aimed based =
-      choice (λ (wrong : ℤ). temperature wrong ≡ true) (active position) (λ _. ramp-range here (position .base) (position .elapsed) based aimed) (λ _. refl)
+      choice (λ (value : ℤ). temperature value ≡ true) (active position)
+      (λ _. choice (λ (value : ℤ). temperature value ≡ true) (here .timer) (λ _. based) (λ _. ramp-range here (position .base) (position .elapsed) based aimed))
+      (λ _. refl)
 
   -- ---- what a move leaves
 
@@ -120,6 +138,9 @@ module _ (here : Here) (position : Position) where
   tick-pattern whole =
       let holds : SamePattern position (secondPosition here position) = ap (λ (other : Position). other .pattern) (second-keeps here position) in
       tick-cases (SamePattern position) here position whole (λ _. refl) (λ _ _. next-pattern here (secondPosition here position) ∙ holds) (λ _ _. holds)
+
+  pub start-pattern : (settings : Settings) (b : ℤ) → SamePattern position (startPosition settings here position b)
+  start-pattern settings b = start-cases (SamePattern position) here position settings b refl (λ _. refl) refl
 
   pub feed-pattern : SamePattern position (feedPosition here position)
   feed-pattern = feed-cases (SamePattern position) here position refl (next-pattern here position)

@@ -10,3 +10,5 @@ pub mod Stays
 pub mod Keeps
 pub mod Words
 pub mod Against
+pub mod Timer
+pub mod After

@@ -79,7 +79,7 @@ pub record Placed (settings : Settings) (here : Here) (p k r : ℕ) : Type 0 whe
 -- ---- readable, by the mode
 
 -- e = w = b = 0
-zero-is : (zero : ℤ) → zeroZ zero ≡ true → zero ≡ pos 0
+pub zero-is : (zero : ℤ) → zeroZ zero ≡ true → zero ≡ pos 0
 unfolding zeroZ
 zero-is (pos mode-known) holds = ap pos (eqb-true mode-known 0 holds)
 zero-is (negsuc mode-known) holds = let first : suc mode-known ≡ 0 = eqb-true (suc mode-known) 0 holds in absurd (omega arith)

@@ -37,7 +37,7 @@ le-trans (negsuc first) (pos second) (negsuc third) holds also = absurd (false�
 le-trans (negsuc first) (negsuc second) (negsuc third) holds also = le-leb third first (omega (arith, leb-true second first holds, leb-true third second also))
 
 -- of two temperatures one is at or below the other
-above : (first second : ℤ) → leZ first second ≡ false → leZ second first ≡ true
+pub above : (first second : ℤ) → leZ first second ≡ false → leZ second first ≡ true
 above (pos first) (pos second) holds = le-leb second first (omega (arith, leb-false first second holds))
 above (pos first) (negsuc second) holds = refl
 above (negsuc first) (pos second) holds = absurd (false≢true (sym holds))

@@ -22,6 +22,11 @@ unfolding both
 both-true true second holds also = also
 both-true false second holds also = holds
 
+pub both-on : (test : Bool) → both test true ≡ test
+unfolding both
+both-on true = refl
+both-on false = refl
+
 -- where the first holds, both fail by the second
 pub both-false : (first second : Bool) → first ≡ true → both first second ≡ false → second ≡ false
 unfolding both

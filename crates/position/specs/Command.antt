@@ -65,10 +65,17 @@ isStart Command.Minus = false
 abbrev pub stopPosition : ℕ → Position
 stopPosition p = record { mode = 0; pattern = p; step = 1; pass = 1; elapsed = 0; waited = 0; base = pos 0 }
 
--- start: mode 1, k = r = 1, e = w = 0, b as given
-abbrev pub startPosition : Position → ℤ → Position
-startPosition position b =
-    record { mode = 1; pattern = position .pattern; step = 1; pass = 1; elapsed = 0; waited = 0; base = b }
+-- start: mode 1, r = 1, e = w = 0, at step k, b as given
+abbrev pub beginPosition : Position → ℕ → ℤ → Position
+beginPosition position k b =
+    record { mode = 1; pattern = position .pattern; step = k; pass = 1; elapsed = 0; waited = 0; base = b }
+
+-- at step 1. Document 02, note 2: under start choice 0, if step 1 is not the timer, at step 2, and a one-step pattern ends at the start with
+-- k = r = 1. `first` is what the bank says at step 1 in pass 1
+unfoldable pub startPosition : Settings → Here → Position → ℤ → Position
+startPosition settings first position b =
+    cond (either (not (eqb (settings .start) 0)) (first .timer)) (beginPosition position 1 b)
+    (cond (ltb 1 (first .count)) (beginPosition position 2 b) (endPosition (beginPosition position 1 b)))
 
 -- whether there is a filtered value, and its measured whole value
 unfoldable pub isValue : Whole → Bool
@@ -140,12 +147,13 @@ stuckOf here position Command.Minus = not (minusMoves here position)
 
 -- ---- what each command does, where it is not refused
 
-unfoldable pub commandPosition : Settings → Here → Whole → Position → Command → Position
-commandPosition settings here whole position (Command.Select q) = stopPosition (natAbs q)
-commandPosition settings here whole position Command.Start = startPosition position (startBase settings whole)
-commandPosition settings here whole position Command.Pause = pausePosition position
-commandPosition settings here whole position Command.Reset = stopPosition (position .pattern)
-commandPosition settings here whole position Command.Feed = feedPosition here position
-commandPosition settings here whole position Command.Back = backPosition here position
-commandPosition settings here whole position Command.Plus = plusPosition here position
-commandPosition settings here whole position Command.Minus = minusPosition here position
+-- `first` as above
+unfoldable pub commandPosition : Settings → Here → Here → Whole → Position → Command → Position
+commandPosition settings here first whole position (Command.Select q) = stopPosition (natAbs q)
+commandPosition settings here first whole position Command.Start = startPosition settings first position (startBase settings whole)
+commandPosition settings here first whole position Command.Pause = pausePosition position
+commandPosition settings here first whole position Command.Reset = stopPosition (position .pattern)
+commandPosition settings here first whole position Command.Feed = feedPosition here position
+commandPosition settings here first whole position Command.Back = backPosition here position
+commandPosition settings here first whole position Command.Plus = plusPosition here position
+commandPosition settings here first whole position Command.Minus = minusPosition here position

@@ -2,18 +2,20 @@
 -- Assumes nothing.
 use Prim.Native.Nat.{ℕ, _+_, _*_, _/_, min}
 use mathlib.Core.Bool.{Bool, false, cond, not}
+use mathlib.Core.List.{List, [], _∷_}
 use lib.Dec.{eqb, leb, ltb}
 use lib.IntN.{ℤ, pos, _+ℤ_, _-ℤ_}
 use lib.ListN.{getD}
 use lib.Signed.{leZ}
 use Rattle.setting.specs.declared.Settings.{Settings}
 use Rattle.bank.specs.declared.Place.{Place}
+use Rattle.bank.specs.View.{placeOf}
 use Rattle.measure.specs.declared.Whole.{Whole}
 use Rattle.position.specs.declared.Position.{Position}
 use Rattle.position.specs.declared.Here.{Here}
 use Rattle.position.specs.declared.Signals.{Signals}
 use Rattle.position.specs.declared.Shown.{Shown}
-use Rattle.position.specs.Tests.{both, either, apart, numbered}
+use Rattle.position.specs.Tests.{both, either, all, apart, sameZ, numbered}
 
 -- ---- a position with some of its parts replaced
 
@@ -49,21 +51,45 @@ placed position k r b =
 unfoldable pub limitOf : ℕ → ℕ
 limitOf runs = cond (eqb runs 0) 9999 runs
 
--- of its step: the target; whether it is endless, which 6,000 minutes are; T, 60 × minutes; the wait number, its zone, and W, 60 × its wait
--- minutes, 0 for number 0; the time signals. Of its pattern: s, and the limit of passes
-unfoldable pub hereOf : Settings → Place → Here
-hereOf settings place =
+-- of its step: the target; whether it is endless, which 6,000 minutes are; T, 60 × minutes; whether it is the timer; the wait number as it is
+-- read, its zone, and W, 60 × its wait minutes, 0 for number 0; the time signals. Of its pattern: s, and the limit of passes
+unfoldable pub hereBy : Settings → Place → Bool → ℕ → Here
+hereBy settings place timer number =
     record {
       target = place .step .target;
       endless = eqb (place .step .minutes) 6000;
       time = 60 * place .step .minutes;
-      number = place .step .wait;
-      zone = numbered (settings .zones) (place .step .wait);
-      wait = 60 * numbered (settings .waits) (place .step .wait);
+      timer = timer;
+      number = number;
+      zone = numbered (settings .zones) number;
+      wait = 60 * numbered (settings .waits) number;
       signals = place .step .signals;
       count = place .count;
       limit = limitOf (place .runs);
     }
+
+-- of a plain step
+unfoldable pub hereOf : Settings → Place → Here
+hereOf settings place = hereBy settings place false (place .step .wait)
+
+-- the timer before the first ramp (document 02, note 2): under start choice 0, step 1 in pass 1, if its target equals SLL
+unfoldable pub isTimer : Settings → ℤ → ℕ → ℕ → Bool
+isTimer settings target k r = all (eqb (settings .start) 0 ∷ eqb k 1 ∷ eqb r 1 ∷ sameZ target (settings .low) ∷ [])
+
+-- of a place, step k, in pass r: in the timer the wait number is read as 0
+unfoldable pub hereAt : Settings → Place → ℕ → ℕ → Here
+hereAt settings place k r =
+    let timer = isTimer settings (place .step .target) k r in
+    hereBy settings place timer (cond timer 0 (place .step .wait))
+
+-- of a position, by the bank's settings
+abbrev pub saidAt : List ℕ → Settings → Position → Here
+saidAt bank settings position =
+    hereAt settings (placeOf bank (position .pattern) (position .step)) (position .step) (position .pass)
+
+-- and of step 1 of its pattern in pass 1, where a run begins
+abbrev pub firstAt : List ℕ → Settings → Position → Here
+firstAt bank settings position = hereAt settings (placeOf bank (position .pattern) 1) 1 1
 
 -- ---- the set value
 
@@ -82,9 +108,10 @@ rampOf here b e =
     cond (either (eqb (here .time) 0) (here .endless)) (here .target)
     (toward b (here .target) (apart (here .target) b * min e (here .time) / here .time))
 
--- modes 0 and 3: 0
+-- modes 1 and 2: in the timer b, also at 0 minutes or endless; else as the ramp says. Modes 0 and 3: 0
 unfoldable pub setValueOf : Here → Position → ℤ
-setValueOf here position = cond (active position) (rampOf here (position .base) (position .elapsed)) (pos 0)
+setValueOf here position =
+    cond (active position) (cond (here .timer) (position .base) (rampOf here (position .base) (position .elapsed))) (pos 0)
 
 -- ---- a second of a running step
 

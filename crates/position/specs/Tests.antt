@@ -26,6 +26,10 @@ zeroZ value = eqb (natAbs value) 0
 unfoldable pub apart : ℤ → ℤ → ℕ
 apart value other = natAbs (value -ℤ other)
 
+-- whether two temperatures are the same
+unfoldable pub sameZ : ℤ → ℤ → Bool
+sameZ value other = zeroZ (value -ℤ other)
+
 -- an entry of a list, counted from 1; 0 for number 0
 unfoldable pub numbered : List ℕ → ℕ → ℕ
 numbered entries zero = 0

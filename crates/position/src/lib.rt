@@ -16,7 +16,8 @@ pub struct Here {
     pub target: i16,
     pub endless: bool,
     pub time: u32, // T, seconds
-    pub number: u8, // wait number
+    pub timer: bool, // the timer before the first ramp
+    pub number: u8, // wait number, 0 in the timer
     pub zone: u16, // wait zone of that number
     pub wait: u32, // W, seconds
     pub signals: [u8; 4], // time signals

@@ -4,6 +4,7 @@ mod place;
 mod signal;
 mod time;
 
+pub use place::here_after;
 pub use place::here_at;
 pub use signal::shown;
 pub use time::feed;

@@ -2,8 +2,10 @@
 ghost use mathlib.Core.Path.{_≡_};
 ghost use Rattle.bank.specs.View.{placeOf};
 ghost use Rattle.position.specs.Tests.{numbered};
-ghost use Rattle.position.specs.Program.{limitOf, hereOf};
+ghost use Rattle.position.specs.Program.{limitOf, isTimer, hereAt};
+ghost use Rattle.position.specs.After.{hereAfter};
 use position::Here;
+use position::Position;
 use setting::Settings;
 
 // Entry i of four, counted from 1; 0 for any other number.
@@ -29,12 +31,22 @@ fn limit(runs: u8) -> u16
     runs as u16
 }
 
-// What a bank says at a pattern and step, with its settings.
-pub fn here_at(bank: &[u8], settings: Settings, pattern: u8, step: u8) -> Here
-    ensures { λ result. ⌜ result ≡ hereOf settings (placeOf (now (bank .entry)) pattern step) ⌝ }
+// Whether a step with a target is the timer, in a pass.
+fn is_timer(settings: Settings, target: i16, step: u8, pass: u16) -> bool
+    ensures { λ result. ⌜ result ≡ isTimer settings target step pass ⌝ }
+{
+    let is_first = (step == 1) & ((pass == 1) & (target == settings.low));
+    (settings.start == 0) & is_first
+}
+
+// What a bank says at a pattern and step, in a pass, with its settings. In the timer the wait number is read as 0.
+pub fn here_at(bank: &[u8], settings: Settings, pattern: u8, step: u8, pass: u16) -> Here
+    ensures { λ result. ⌜ result ≡ hereAt settings (placeOf (now (bank .entry)) pattern step) step pass ⌝ }
 {
     let place = bank::place_of(bank, pattern, step);
     let found = place.step;
+    let timer = is_timer(settings, found.target, step, pass);
+    let number = if timer { 0 } else { found.wait };
     let signals = found.signals;
     let zones = settings.zones;
     let waits = settings.waits;
@@ -42,11 +54,36 @@ pub fn here_at(bank: &[u8], settings: Settings, pattern: u8, step: u8) -> Here
         target: found.target,
         endless: found.minutes == 6000,
         time: 60 * found.minutes as u32,
-        number: found.wait,
-        zone: entry(zones, found.wait),
-        wait: 60 * entry(waits, found.wait) as u32,
+        timer,
+        number,
+        zone: entry(zones, number),
+        wait: 60 * entry(waits, number) as u32,
         signals,
         count: place.count,
         limit: limit(place.runs),
     }
+}
+
+// What is said at a position, where it is known at another: the bank is read only if pattern, step or pass differ.
+pub fn here_after(
+    bank: &[u8],
+    settings: Settings,
+    here: Here,
+    before: Position,
+    position: Position,
+) -> Here
+    ensures { λ result. ⌜ result ≡ hereAfter (now (bank .entry)) settings here before position ⌝ }
+{
+    let moved = (before.pattern != position.pattern)
+        | ((before.step != position.step) | (before.pass != position.pass));
+    if moved {
+        return here_at(
+            bank,
+            settings,
+            position.pattern,
+            position.step,
+            position.pass,
+        );
+    }
+    here
 }

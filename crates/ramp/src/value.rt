@@ -27,11 +27,14 @@ fn ramp(here: Here, b: i16, e: u32) -> i16
     moved(b, here.target, part(distance(here.target, b), e, here.time))
 }
 
-// The set value; 0 in modes 0 and 3.
+// The set value: b in the timer, else the ramp's; 0 in modes 0 and 3.
 pub fn set_value(here: Here, position: Position) -> i16
     ensures { λ result. ⌜ result ≡ setValueOf here position ⌝ }
 {
     if (position.mode == 1) | (position.mode == 2) {
+        if here.timer {
+            return position.base;
+        }
         return ramp(here, position.base, position.elapsed);
     }
     0

@@ -14,9 +14,10 @@ use Rattle.bank.specs.View.{stepAt, patternAt, patternsOf, noPattern, noStep, n
 use Rattle.arrays.specs.Encode.{paired, stepsBytes, bodiesBytes, pairsBytes, encode}
 use Rattle.measure.specs.Filter.{lagged, kept, afterOf, firstOf as firstReading, within as inRange, nearest, wholeOf, soundOf, outsideOf}
 use Rattle.position.specs.Tests.{either, all, zeroZ, apart, numbered as ordinal}
-use Rattle.position.specs.Program.{limitOf, hereOf, active, toward, rampOf, setValueOf, nearOf, pastOf, inZoneOf, secondPosition, leavesOf}
+use Rattle.position.specs.Program.{limitOf, hereBy, hereOf, isTimer, hereAt, active, toward, rampOf, setValueOf, nearOf, pastOf, inZoneOf}
+use Rattle.position.specs.Program.{secondPosition, leavesOf}
 use Rattle.position.specs.Program.{nextPosition, tickPosition, signalOf, signalsOf, shownOf}
-use Rattle.position.specs.Command.{takesOf, selectsOf, isStart, isValue, valueOf, startBase, lacksValue, stuckOf, commandPosition}
+use Rattle.position.specs.Command.{takesOf, selectsOf, isStart, startPosition, isValue, valueOf, startBase, lacksValue, stuckOf, commandPosition}
 use Rattle.position.specs.Return.{goesOn, returnPosition, timesRight, clearedOf, readableOf}
 use Rattle.alarm.specs.Alarm.{inRange as settingInRange, allInRange, judgedValue, condition, flagsOf, holdsAt, waits, onAfter, passedAfter, countAfter}
 use Rattle.alarm.specs.Alarm.{alarmAfter, judgedBy, keptIn, tickAlarms, bounded, allBounded}
@@ -41,8 +42,8 @@ unfolding add sub mul div ofInt le toBits num field digits stored signedField ro
     capacityOf pairRight pairsFrom pairsFound signalsRight stepRight stepsFound bodiesFound ofLength foundIn
     stepAt patternAt patternsOf noPattern noStep entry patternOf stepOf placeOf paired stepsBytes bodiesBytes pairsBytes encode
     lagged kept afterOf firstReading inRange nearest wholeOf soundOf outsideOf either all zeroZ apart ordinal
-    limitOf hereOf active toward rampOf setValueOf nearOf pastOf inZoneOf secondPosition leavesOf
-    nextPosition tickPosition signalOf signalsOf shownOf takesOf selectsOf isStart isValue valueOf startBase lacksValue stuckOf commandPosition
+    limitOf hereBy hereOf isTimer hereAt active toward rampOf setValueOf nearOf pastOf inZoneOf secondPosition leavesOf
+    nextPosition tickPosition signalOf signalsOf shownOf takesOf selectsOf isStart startPosition isValue valueOf startBase lacksValue stuckOf commandPosition
     goesOn returnPosition timesRight clearedOf readableOf
     settingInRange allInRange judgedValue condition flagsOf holdsAt waits onAfter passedAfter countAfter
     alarmAfter judgedBy keptIn tickAlarms bounded allBounded alarmsAt refusalNumber numbersOf

@@ -86,7 +86,7 @@ fn new_seed() -> u64 {
 /// A part of the random work.
 type Part = (&'static str, fn(&mut Comparer, &mut Random) -> Compared);
 
-/// The parts of the random work, each with the work of one round; the lists take as long as all the others.
+/// The parts of the random work, each with the work of one round; the lists take about as long as all the others.
 const LISTS_PART: Part = ("random lists", |c, r| lists::compare(c, r, LISTS));
 const OTHER_PARTS: [Part; 5] = [
     ("random hostile banks", |c, r| {
@@ -134,13 +134,18 @@ fn rounds(
     })
 }
 
-/// All of the fixed work but the random lists.
+/// The long lists of the fixed work.
+fn list_work(from: Instant, comparer: &mut Comparer, random: &mut Random) -> Compared {
+    said("cuts in the fixed cook", from, || {
+        cook_cuts::compare(comparer)
+    })?;
+    rounds(LISTS_PART, from, comparer, random)
+}
+
+/// All of the fixed work but the long lists.
 fn other_work(from: Instant, comparer: &mut Comparer, random: &mut Random) -> Compared {
     said("every list of the tree walk", from, || {
         walk::every_list(comparer, WALK_DEPTH)
-    })?;
-    said("cuts in the fixed cook", from, || {
-        cook_cuts::compare(comparer)
     })?;
     said("banks damaged at every field", from, || {
         (0..DAMAGED).try_for_each(|_| hostile::every_field(comparer, random))
@@ -162,13 +167,13 @@ fn other_work(from: Instant, comparer: &mut Comparer, random: &mut Random) -> Co
         .try_for_each(|part| rounds(part, from, comparer, random))
 }
 
-/// The fixed work, the random lists beside the rest, from a generator of their own.
+/// The fixed work, the long lists beside the rest, from a generator of their own.
 fn fixed_work(comparer: &mut Comparer, random: &mut Random) -> Compared {
     let from = Instant::now();
     let mut own = Random::new(random.bits());
     let mut beside = Comparer::default();
     let (others, listed) = thread::scope(|scope| {
-        let listed = scope.spawn(|| rounds(LISTS_PART, from, &mut beside, &mut own));
+        let listed = scope.spawn(|| list_work(from, &mut beside, &mut own));
         let others = other_work(from, comparer, random);
         (others, listed.join())
     });

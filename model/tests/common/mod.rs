@@ -3,8 +3,8 @@
 #![allow(dead_code)]
 
 use model::{
-    make, write, Alarm, AlarmSetting, Answer, Command, Config, Contents, Event, Measured, Reading,
-    Refusal, Settings, State, Step,
+    make, read_back, write, Alarm, AlarmSetting, Answer, Command, Config, Contents, Event,
+    Measured, Reading, Refusal, Settings, State, Step,
 };
 
 /// The settings of the sheet example, for n patterns.
@@ -211,6 +211,31 @@ impl Controller {
     }
 }
 
+/// Sends an event that must be refused, and checks that it leaves all.
+pub fn refuses(controller: &mut Controller, event: Event, number: u8) {
+    let (record, state) = (controller.record, controller.state);
+    assert_eq!(controller.send(event), refused(number), "{event:?}");
+    assert_eq!((controller.record, controller.state), (record, state));
+}
+
+/// The steps of pattern p, as the bank was written from them.
+pub fn steps_of(bank: &[u8], p: u8) -> Vec<Step> {
+    let (_, patterns, steps) = read_back(bank).expect("an accepted bank");
+    let (before, from) = patterns.split_at(usize::from(p) - 1);
+    let start: usize = before.iter().map(|&(_, s)| usize::from(s)).sum();
+    steps[start..start + usize::from(from[0].1)].to_vec()
+}
+
+/// Whether a state is in the timer: mode 1 or 2, "Under start choice 0, if step
+/// 1's target equals SLL", "in pass 1 alone".
+pub fn in_timer(bank: &[u8], state: &State) -> bool {
+    let place = ([1, 2].contains(&state.mode), state.k, state.r);
+    let (settings, ..) = read_back(bank).expect("an accepted bank");
+    place == (true, 1, 1)
+        && settings.start == 0
+        && steps_of(bank, state.p)[0].target == settings.sll
+}
+
 /// A 64-bit generator (xorshift with a multiplication at the end).
 pub struct Random(u64);
 
@@ -272,7 +297,8 @@ impl Random {
         }
     }
 
-    /// A bank that the writer accepts, in the form that it takes.
+    /// A bank that the writer accepts, in the form that it takes. Half of the
+    /// patterns begin with the target that the timer has.
     pub fn layout(&mut self) -> Contents {
         let settings = self.settings();
         let capacity = 99 / i64::from(settings.n);
@@ -287,6 +313,9 @@ impl Random {
             for step in steps.iter_mut().skip(at).take(s as usize) {
                 *step = self.step(&settings);
             }
+            if s > 0 && self.one_in(2) {
+                steps[at].target = settings.sll;
+            }
             at += s as usize;
         }
         (settings, patterns, steps)
@@ -298,6 +327,13 @@ impl Random {
         let length = write(&settings, &patterns, &steps, &mut out).expect("in range");
         out.truncate(length);
         out
+    }
+
+    /// A bank under start choice 0; half of its patterns have the timer.
+    pub fn bank_from_measured_value(&mut self) -> Vec<u8> {
+        let mut bank = self.bank();
+        bank[1] = 0;
+        bank
     }
 
     /// An alarm in range, with bounds among the readings that are made here.

@@ -8,10 +8,13 @@ use lib.IntN.{ℤ, pos, negsuc, natAbs}
 use lib.Signed.{nonNeg}
 use mir.Syntax.{w32}
 use mir.Facts.{toZ-ofZ}
+use denote.Ref.{now}
 use borrow.Author.Needs.{needs}
 use borrow.Author.Tests.{leb-true}
 use Rattle.setting.specs.declared.Settings.{Settings}
+use Rattle.position.specs.declared.Here.{Here}
 use Rattle.position.specs.declared.Command.{Command}
+use Rattle.position.specs.Program.{firstAt}
 use Rattle.position.specs.Tests.{both, within}
 use Rattle.position.specs.Command.{selectsOf, isStart, stopPosition, plusMoves, minusMoves, stuckOf, commandPosition}
 use Rattle.position.proofs.Tests.{both-right}
@@ -38,7 +41,7 @@ small settings l (negsuc m) h = absurd (false≢true h)
 
 cast-stopped : tie.Need-cast-stopped
 cast-stopped c =
-    let start = c .before .before .before in
+    let start = c .before .before .before .before in
     let q = c .before .pressed .given .0 .0 in
     let h = small (start .args .settings) (search needs) q (rw (c .before .pressed .given .1) at (start .pre .selects)) in
     rw (toZ-ofZ {w = w32} (record { sfits = c .known-told .given .0 .1 })) (h .sign, record { fits = h .size })
@@ -53,13 +56,17 @@ module _ (c : tie.Start) (command : Command) (h : c .args .pressed ≡ command) 
   takes : Takes (c .args .settings) (c .args .position) command
   takes = subst (Takes (c .args .settings) (c .args .position)) h (c .pre)
 
+  -- what the bank says at step 1 in pass 1
+  abbrev first : Here
+  first = firstAt (now (c .args .bank)) (c .args .settings) (c .args .position)
+
   -- one that is no start goes where its row says, or is refused 30 where it cannot move
   goes : (moves : Bool) → isStart command ≡ false → stuckOf (c .args .here) (c .args .position) command ≡ not moves
-      → cond moves (Move.To (commandPosition (c .args .settings) (c .args .here) (c .args .value) (c .args .position) command)) (Move.No Refusal.Stuck)
-      ≡ commandMove (c .args .settings) (c .args .here) (c .args .value) (c .args .position) (c .args .pressed)
+      → cond moves (Move.To (commandPosition (c .args .settings) (c .args .here) first (c .args .value) (c .args .position) command)) (Move.No Refusal.Stuck)
+      ≡ commandMove (c .args .settings) (c .args .here) first (c .args .value) (c .args .position) (c .args .pressed)
   unfolding both
   goes moves x y =
-      rw (h, taken-is (c .args .settings) (c .args .here) (c .args .value) (c .args .position) command takes, x, y) (turned moves _ _)
+      rw (h, taken-is (c .args .settings) (c .args .here) first (c .args .value) (c .args .position) command takes, x, y) (turned moves _ _)
 
 returns : tie.Need-returns
 unfolding isStart stuckOf commandPosition
@@ -67,40 +74,40 @@ returns c =
     let told = c .before .before .pressed .given in
     let q = toZ-ofZ {w = w32} {z = told .0 .0} (record { sfits = c .before .known-told .given .0 .1 }) in
     ap Move.To (c .stopped .ensures ∙ ap (λ (z : ℤ). stopPosition (natAbs z)) q)
-    ∙ goes (c .before .before .before .before) (Command.Select (told .0 .0)) (told .1) true refl refl
+    ∙ goes (c .before .before .before .before .before) (Command.Select (told .0 .0)) (told .1) true refl refl
 
 start-requires : tie.Need-start-requires
-start-requires c κs = takes (c .before .before) Command.Start (c .enum-told .given .1) .takes
+start-requires c κs = takes (c .before .before .before) Command.Start (c .enum-told .given .1) .takes
 
 returns-2 : tie.Need-returns-2
 returns-2 c = rw (c .before .enum-told .given .1) (c .start .ensures)
 
 returns-3 : tie.Need-returns-3
 unfolding isStart stuckOf commandPosition
-returns-3 c = ap Move.To (c .paused .ensures) ∙ goes (c .before .before .before) Command.Pause (c .before .enum-told2 .given .1) true refl refl
+returns-3 c = ap Move.To (c .paused .ensures) ∙ goes (c .before .before .before .before) Command.Pause (c .before .enum-told2 .given .1) true refl refl
 
 returns-4 : tie.Need-returns-4
 unfolding isStart stuckOf commandPosition
-returns-4 c = ap Move.To (c .stopped2 .ensures) ∙ goes (c .before .before .before) Command.Reset (c .before .enum-told3 .given .1) true refl refl
+returns-4 c = ap Move.To (c .stopped2 .ensures) ∙ goes (c .before .before .before .before) Command.Reset (c .before .enum-told3 .given .1) true refl refl
 
 returns-5 : tie.Need-returns-5
 unfolding isStart stuckOf commandPosition
-returns-5 c = ap Move.To (c .feed .ensures) ∙ goes (c .before .before .before) Command.Feed (c .before .enum-told4 .given .1) true refl refl
+returns-5 c = ap Move.To (c .feed .ensures) ∙ goes (c .before .before .before .before) Command.Feed (c .before .enum-told4 .given .1) true refl refl
 
 returns-6 : tie.Need-returns-6
 unfolding isStart stuckOf commandPosition
-returns-6 c = ap Move.To (c .back .ensures) ∙ goes (c .before .before .before) Command.Back (c .before .enum-told5 .given .1) true refl refl
+returns-6 c = ap Move.To (c .back .ensures) ∙ goes (c .before .before .before .before) Command.Back (c .before .enum-told5 .given .1) true refl refl
 
 returns-7 : tie.Need-returns-7
 unfolding isStart stuckOf commandPosition plusMove
 returns-7 c =
-    let start = c .before .before .before in
+    let start = c .before .before .before .before in
     c .plus .ensures ∙ goes start Command.Plus (c .before .enum-told6 .given .1) (plusMoves (start .args .here) (start .args .position)) refl refl
 
 returns-8 : tie.Need-returns-8
 unfolding isStart stuckOf commandPosition minusMove
 returns-8 c =
-    let start = c .before .before .before in
+    let start = c .before .before .before .before in
     c .minus .ensures ∙ goes start Command.Minus (c .before .enum-told7 .given .1) (minusMoves (start .args .here) (start .args .position)) refl refl
 
 pub taken-spec : {M : Type 1} → statement M

@@ -1,9 +1,8 @@
 -- `effect::events::is_readable` meets its contract. Assumes nothing.
 use mathlib.Core.Path.{sym, _∙_}
-use Rattle.position.proofs.Tests.{both-and}
+use Rattle.position.proofs.Tests.{both-and, both-on}
 use Rattle.position.specs.Tests.{all, both}
 use Rattle.alarm.proofs.Short.{clear-within}
-use Rattle.effect.proofs.Laws.{both-on}
 use borrow.Author.Needs.{needs}
 use Rattle.effect.proofs.events.is_readable.Statement.{statement}
 use Rattle.effect.proofs.events.is_readable.Tie as tie

@@ -3,7 +3,7 @@ use mathlib.Core.Path.{subst}
 use denote.Ref.{now}
 use Rattle.plain.specs.declared.Event.{Event}
 use Rattle.effect.specs.declared.Progress.{Progress}
-use Rattle.effect.specs.Done.{Does, DoesCut, DoesReturn}
+use Rattle.effect.specs.Done.{Does, DoesPress, DoesCut, DoesReturn}
 use borrow.Author.Needs.{needs}
 use Rattle.effect.proofs.events.known.Statement.{statement}
 use Rattle.effect.proofs.events.known.Tie as tie
@@ -45,9 +45,10 @@ returns c =
 returns-2 : tie.Need-returns-2
 returns-2 c =
     let a = c .before .before .before .before .before .before .before .args in
-    let does = subst (λ (progress : Progress). Does (a .settings) (a .here) (a .power) progress (Event.Press (c .before .before .event2 .given .0 .0)) (c .press .result))
+    let pressed = Event.Press (c .before .before .event2 .given .0 .0) in
+    let does = subst (λ (progress : Progress). DoesPress (now (a .bank)) (a .settings) (a .here) (a .power) progress pressed (c .press .result))
     (c .before .before .before .before .by-parts .ensures) (c .press .ensures) in
-    rw (c .before .before .event2 .given .1) (λ config alarms ready bounded. does _ _ alarms ready)
+    rw (c .before .before .event2 .given .1) (λ config alarms ready bounded. does config _ alarms ready)
 
 returns-3 : tie.Need-returns-3
 returns-3 c =

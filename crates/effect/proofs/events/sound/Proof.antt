@@ -1,8 +1,7 @@
 -- `effect::events::sound` meets its contract. Assumes nothing.
-use Rattle.position.proofs.Tests.{both-and}
+use Rattle.position.proofs.Tests.{both-and, both-on}
 use Rattle.position.specs.Tests.{all}
 use Rattle.plain.specs.Run.{soundBy}
-use Rattle.effect.proofs.Laws.{both-on}
 use borrow.Author.Needs.{needs}
 use Rattle.effect.proofs.events.sound.Statement.{statement}
 use Rattle.effect.proofs.events.sound.Tie as tie

@@ -12,6 +12,8 @@ use Rattle.effect.specs.declared.Progress.{Progress}
 use Rattle.effect.specs.declared.Done.{Done}
 use Rattle.plain.proofs.Standing.{stands-sized, stands-sound}
 use Rattle.plain.specs.Event.{after, recordFor, eventOutcome, eventsFrom}
+use Rattle.position.specs.Program.{saidAt}
+use Rattle.position.proofs.After.{after-said}
 use Rattle.plain.specs.Record.{creditsIn}
 use Rattle.plain.specs.Run.{credited}
 use Rattle.plain.specs.Setup.{over}
@@ -75,6 +77,14 @@ idle-is c =
     let pre = c .before .before .before .before .before .before .before .before .before .before .before .before .before .before .before .before .before .before .pre in
     ⊎-elim (λ x. x .7 ∙ x .5 .ensures ∙ rw (x .6)) (λ x. x .2 ∙ pre .idle-is ∙ rw (x .1)) (c .if2 .came)
 
+-- what is said at the position that is left
+said : (c : tie.After-here-after) →
+    let start = c .before .before .before .before .before .before .before .before .before .before .before .before .before .before .before in
+    c .here-after .result ≡ saidAt (now (start .args .bank)) (start .args .settings) (c .before .before .by-parts .result .position)
+said c =
+    let start = c .before .before .before .before .before .before .before .before .before .before .before .before .before .before .before in
+    c .here-after .ensures ∙ after-said _ _ (start .args .moved .here) (start .args .moved .progress .position) _ (start .pre .known .here-is)
+
 -- what is left, once the credits and the record are those that the event leaves
 moved-on : (c : tie.Joined2) →
     let a = c .before .before .before .before .before .before .before .before .before .before .before .before .before .before .before .before .before .before .args in
@@ -94,7 +104,7 @@ moved-on c credits written gains saves =
     let setup = over (now (a .bank)) (a .config) in
     let known = c .before .before .before .before .before .before .known in
     let by-parts = c .before .before .before .before .before .by-parts in
-    let here-after = c .before .before .before .here-after in
+    let there = c .before .before .before in
     let event = c .before .before .before .before .before .before .before .before .before .before .before .before .before .before .asked .given .0 .0 in
     let argued = c .before .before .before .before .before .before .before in
     let bounded = c .before .before .before .before .before .before .before .before in
@@ -105,12 +115,12 @@ moved-on c credits written gains saves =
       accepted = known .result .accepted;
       refusal = known .result .refusal;
     } in
-    let said : Known (setup .bank) (by-parts .result .position) (a .settings) (here-after .result) =
-    record { settings-are = start .pre .known .settings-are; here-is = here-after .ensures } in
+    let known-there : Known (setup .bank) (by-parts .result .position) (a .settings) (there .here-after .result) =
+    record { settings-are = start .pre .known .settings-are; here-is = said there } in
     let does = subst (λ (progress : Progress). DoesTo setup (now (a .store)) (a .moved .power) (a .moved .progress) event (to progress) (a .moved .alarms))
     (sym (by-parts .ensures)) (known .ensures (a .config) (a .moved .alarms) (ready argued) (bounded-is bounded)) in
     one-turn setup (a .moved) (now (a .credits)) (now (a .store)) (start .pre .stands) event (to (by-parts .result)) does (c .if2 .alarms)
-    (here-after .result) (alarms-are c) (said-in setup (by-parts .result .position) said) credits written gains saves
+    (there .here-after .result) (alarms-are c) (said-in setup (by-parts .result .position) known-there) credits written gains saves
 
 returns : tie.Need-returns
 unfolding eventsFrom
@@ -123,9 +133,6 @@ known-requires c κs =
     λ on.
     let a = c .before .before .before .before .before .before .before .before .before .before .before .args in
     few (over (now (a .bank)) (a .config)) (a .moved .power) (stateFrom (a .moved) (now (a .credits)) .run) on (ready c .sound .sound)
-
-here-after-requires : tie.Need-here-after-requires
-here-after-requires c κs = c .before .before .before .before .before .before .before .before .before .before .before .before .before .before .pre .known .here-is
 
 settle-requires : tie.Need-settle-requires
 settle-requires c κs =
@@ -140,13 +147,12 @@ unfolding eventsFrom
 returns-2 c =
     let joined = c .before .before .before .before .before .before .before .before .before .before in
     let asked = joined .before .before .before .before .before .before .before .before .before .before .before .before .before .before .asked in
-    let here-after = joined .before .before .before .here-after in
     let credit-after = c .before .before .before .before .before .before .before .before .before .credit-after in
     let settle = c .before .before .before .before .before .before .settle in
     let saving = c .before .before .before .before .before .if3 in
     let whole = ready (joined .before .before .before .before .before .before .before) .whole in (
       rw (asked .given .1) (moved-on joined _ _ (settle .ensures ∙ rw (credit-after .ensures)) (rw (saving .taken, c .before .before .write .ensures, whole))),
-      record { here-is = here-after .ensures; idle-is = idle-is joined },
+      record { here-is = said (joined .before .before .before); idle-is = idle-is joined },
     )
 
 returns-3 : tie.Need-returns-3
@@ -154,10 +160,9 @@ unfolding eventsFrom
 returns-3 c =
     let joined = c .before .before .before .before .before in
     let asked = joined .before .before .before .before .before .before .before .before .before .before .before .before .before .before .asked in
-    let here-after = joined .before .before .before .here-after in
     let credit-after = c .before .before .before .before .credit-after in (
       rw (asked .given .1) (moved-on joined _ _ (c .before .settle .ensures ∙ rw (credit-after .ensures)) (rw (c .if3 .left))),
-      record { here-is = here-after .ensures; idle-is = idle-is joined },
+      record { here-is = said (joined .before .before .before); idle-is = idle-is joined },
     )
 
 pub turn-spec : {M : Type 1} → statement M
@@ -171,7 +176,7 @@ turn-spec =
     (λ c κs. search needs)
     known-requires
     (λ c κs. search needs)
-    here-after-requires
+    (λ c κs. search needs)
     (λ c κs. search needs)
     (λ c κs. search needs)
     (λ c κs. search needs)

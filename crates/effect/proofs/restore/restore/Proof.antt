@@ -4,7 +4,7 @@ use mathlib.Core.Bool.{_&&_}
 use borrow.Author.Tests.{not-true, not-false}
 use denote.Ref.{now}
 use Rattle.position.specs.Tests.{all}
-use Rattle.position.proofs.Tests.{both-and}
+use Rattle.position.proofs.Tests.{both-and, both-on}
 use Rattle.alarm.specs.Alarm.{keptIn}
 use Rattle.plain.specs.declared.Config.{Config}
 use Rattle.plain.specs.declared.Event.{Event}
@@ -14,7 +14,6 @@ use Rattle.plain.specs.Record.{positionIn, alarmsIn}
 use Rattle.plain.specs.Event.{broughtBack}
 use Rattle.plain.specs.Setup.{settingsIn, hereIn, over}
 use Rattle.effect.specs.Done.{withAlarms, boundedFor, effectOf}
-use Rattle.effect.proofs.Laws.{both-on}
 use Rattle.effect.proofs.Rows.{returned-effect, return-on, return-outside, return-unreadable, return-back}
 use borrow.Author.Needs.{needs}
 use Rattle.effect.proofs.restore.restore.Statement.{statement}
