@@ -63,7 +63,8 @@ enum cook_kind {
     COOK_TICK_UNDER = 2,
     COOK_SELECT = 3,        /* value: the pattern */
     COOK_START = 4,         /* start choice 0: at step 1 if its target is SLL,
-                               which is the timer, else at step 2 */
+                               which is the timer; else at step 2, or at the
+                               end if there is none */
     COOK_PAUSE = 5,
     COOK_RESET = 6,
     COOK_FEED = 7,

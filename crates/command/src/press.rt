@@ -2,7 +2,7 @@
 ghost use mathlib.Core.Path.{_≡_};
 ghost use mathlib.Core.Bool.{true};
 ghost use Rattle.position.specs.Program.{firstAt};
-ghost use Rattle.position.specs.Command.{takesOf, selectsOf, stopPosition, startPosition, pausePosition, backPosition};
+ghost use Rattle.position.specs.Command.{takesOf, selectsOf, startPosition, pausePosition, backPosition};
 ghost use Rattle.plain.specs.Refusals.{commandMove};
 ghost use Rattle.position.specs.declared.Command.{Command};
 ghost use Rattle.command.specs.Moves.{Takes};
@@ -14,6 +14,7 @@ use plain::Refusal;
 use position::Command;
 use position::Here;
 use position::Position;
+use retained::stopped;
 use setting::Settings;
 
 // Whether a command selects no pattern outside 1 to n.
@@ -39,21 +40,6 @@ fn takes(pressed: Command, mode: u8) -> bool
         Command::Back => (mode == 1) | (mode == 2),
         Command::Plus => (mode == 1) | (mode == 2),
         Command::Minus => (mode == 1) | (mode == 2),
-    }
-}
-
-// To stopped, at a pattern.
-pub fn stopped(pattern: u8) -> Position
-    ensures { λ result. ⌜ result ≡ stopPosition pattern ⌝ }
-{
-    Position {
-        mode: 0,
-        pattern,
-        step: 1,
-        pass: 1,
-        elapsed: 0,
-        waited: 0,
-        base: 0,
     }
 }
 
@@ -146,7 +132,7 @@ fn taken(
         Command::Start => start(bank, settings, here, value, position),
         Command::Pause => Move::To(paused(position)),
         Command::Reset => Move::To(stopped(position.pattern)),
-        Command::Feed => Move::To(program::feed(here, position)),
+        Command::Feed => Move::To(time::feed(here, position)),
         Command::Back => Move::To(back(here, position)),
         Command::Plus => plus(here, position),
         Command::Minus => minus(here, position),

@@ -75,7 +75,7 @@ fn is_readable(config: Config, settings: Settings, here: Here, run: Run) -> bool
     ensures { λ result. ⌜ result ≡ readableBy config settings here run ⌝ }
 {
     let position = run.position;
-    let readable = command::readable(settings, here, position);
+    let readable = retained::readable(settings, here, position);
     if bounds::are_clear(run.alarms) {
         return readable; // within every bounds
     }

@@ -29,7 +29,7 @@ fn returned(settings: Settings, here: Here, reading: Reading, progress: Progress
 {
     let measured = measure::first(reading);
     let before = progress.position;
-    let position = command::returned(settings, here, measure::whole_value(measured), before);
+    let position = retained::returned(settings, here, measure::whole_value(measured), before);
     Progress {
         position,
         unsaved: 0,
@@ -64,7 +64,7 @@ pub fn restore(
         position.step,
         position.pass,
     );
-    let readable = command::readable(settings, there, position) & bounded;
+    let readable = retained::readable(settings, there, position) & bounded;
     if !readable {
         return refused(power, progress, Refusal::Unreadable);
     }

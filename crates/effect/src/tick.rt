@@ -42,7 +42,7 @@ fn stepped(here: Here, mut progress: Progress) -> Progress
 {
     let value = progress.measured;
     let before = progress.position;
-    let position = program::tick(here, measure::whole_value(value), before);
+    let position = time::tick(here, measure::whole_value(value), before);
     progress.position = position;
     progress
 }

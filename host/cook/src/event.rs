@@ -15,6 +15,8 @@ pub enum Reading {
 pub enum Event {
     Tick(Reading),
     Select(i32),
+    /// Under start choice 0 at step 1 if its target is SLL, which is the timer;
+    /// else at step 2, or at the end if there is none.
     Start,
     Pause,
     Reset,

@@ -1,0 +1,10 @@
+-- `retained::stopped` meets its contract. Assumes nothing.
+use mathlib.Core.Path.{refl}
+use Rattle.retained.proofs.stopped.Statement.{statement}
+use Rattle.retained.proofs.stopped.Tie as tie
+
+returns : tie.Need-returns
+returns c = refl
+
+pub stopped-spec : {M : Type 1} → statement M
+stopped-spec = tie.close (tie.spec returns)
