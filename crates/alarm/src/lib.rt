@@ -1,7 +1,7 @@
 // Four event alarms: their settings, and what is kept of them. There is no code here.
 
 // The settings of an alarm.
-#[derive(Drop)]
+#[derive(Clone, Copy)]
 pub struct AlarmSetting {
     pub kind: u8, // 0 to 8
     pub high: i16, // H
@@ -12,7 +12,7 @@ pub struct AlarmSetting {
 }
 
 // Those of all four.
-#[derive(Drop)]
+#[derive(Clone, Copy)]
 pub struct AlarmSettings {
     pub first: AlarmSetting,
     pub second: AlarmSetting,
@@ -21,13 +21,13 @@ pub struct AlarmSettings {
 }
 
 // An alarm.
-#[derive(Drop)]
+#[derive(Clone, Copy)]
 pub struct Alarm {
     pub flags: u8, // on 1, standby passed 2
     pub count: u16, // delay count: the true ticks so far
 }
 
-#[derive(Drop)]
+#[derive(Clone, Copy)]
 pub struct Alarms {
     pub first: Alarm,
     pub second: Alarm,

@@ -8,7 +8,7 @@ use plain::{Answer, Refusal};
 use setting::Checked;
 
 // The number, 0 if accepted, and its values, 0 where it has none; how many numbers that are.
-#[derive(Drop)]
+#[derive(Clone, Copy)]
 pub struct Numbers {
     pub number: u8,
     pub first: u16,

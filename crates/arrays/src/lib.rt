@@ -3,7 +3,7 @@ use bank::Step;
 use setting::{Checked, Settings};
 
 // The patterns of a bank: runs and count (s) of each, and the steps, those of pattern 1 first.
-#[derive(Drop)]
+#[derive(Clone, Copy)]
 pub struct Patterns {
     pub runs: [u8; 15],
     pub counts: [u8; 15],
@@ -11,7 +11,7 @@ pub struct Patterns {
 }
 
 // What reading a bank gives: what its check finds and, of an accepted bank, its settings and patterns.
-#[derive(Drop)]
+#[derive(Clone, Copy)]
 pub struct Bank {
     pub found: Checked,
     pub settings: Settings,
@@ -19,7 +19,7 @@ pub struct Bank {
 }
 
 // What writing a bank gives. `written_numbers` gives the document's number and values of each case.
-#[derive(Drop)]
+#[derive(Clone, Copy)]
 pub enum Written {
     Length(u16),
     Refused(Checked),

@@ -13,7 +13,7 @@ mod pair;
 mod view;
 
 // A step as it stands in a bank.
-#[derive(Drop)]
+#[derive(Clone, Copy)]
 pub struct Step {
     pub target: i16,
     pub minutes: u16, // 6,000 is endless
@@ -22,7 +22,7 @@ pub struct Step {
 }
 
 // A step, with runs and count (s) of its pattern.
-#[derive(Drop)]
+#[derive(Clone, Copy)]
 pub struct Place {
     pub step: Step,
     pub count: u8,

@@ -11,7 +11,7 @@ use field::{byte, join4, long};
 use setting::Checked;
 
 // Where a body lies.
-#[derive(Drop)]
+#[derive(Clone, Copy)]
 pub struct Extent {
     pub at: usize,
     pub len: usize,

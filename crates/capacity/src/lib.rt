@@ -1,4 +1,6 @@
 // How many steps a pattern can have.
+#![tactic(auto)]
+
 ghost use Rattle.std.specs.Prelude.{◌≡◌};
 ghost use Rattle.capacity.specs.Capacity.{capacity_of};
 

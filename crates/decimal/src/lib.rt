@@ -1,4 +1,6 @@
 // Numbers as text, written at a place of a buffer.
+#![tactic(auto)]
+
 ghost use Rattle.std.specs.Prelude.{◌≡◌, cond, ◌+◌, ◌≤◌, ◌<◌, length};
 ghost use Rattle.decimal.specs.Text.{decimal, text, put, put_text, put_of};
 

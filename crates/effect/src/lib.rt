@@ -22,7 +22,7 @@ mod restore;
 mod tick;
 
 // A run without its alarms.
-#[derive(Drop)]
+#[derive(Clone, Copy)]
 struct Progress {
     position: Position,
     unsaved: u8, // u, ticks since the last save
@@ -30,7 +30,7 @@ struct Progress {
 }
 
 // What an event does, without what it shows and what becomes of credits and alarms.
-#[derive(Drop)]
+#[derive(Clone, Copy)]
 struct Done {
     power: bool,
     progress: Progress,
@@ -40,7 +40,7 @@ struct Done {
 }
 
 // What goes from one event of a list to the next; `here` is what is said at the position.
-#[derive(Drop)]
+#[derive(Clone, Copy)]
 struct Moved {
     progress: Progress,
     alarms: Alarms,

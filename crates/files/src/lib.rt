@@ -5,7 +5,7 @@ ghost use Rattle.io.specs.Counts.{IsPrefixLen};
 use libc::STDOUT_FILENO;
 
 // What is read of a file: whether it could be read, and how many bytes.
-#[derive(Drop)]
+#[derive(Clone, Copy)]
 pub struct Loaded {
     pub is_read: bool,
     pub size: usize,

@@ -10,7 +10,7 @@ use plain::{Config, Reply};
 use run::dark_run;
 
 // What running a list gives back beside the record: the last state and the reply.
-#[derive(Drop)]
+#[derive(Clone, Copy)]
 pub struct Outcome {
     pub state: State,
     pub reply: Reply,

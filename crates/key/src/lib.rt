@@ -9,7 +9,7 @@ mod key;
 mod value;
 
 // A number, or text that is none.
-#[derive(Drop)]
+#[derive(Clone, Copy)]
 pub enum Number {
     NoForm,
     Value(i32),

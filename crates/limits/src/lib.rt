@@ -1,4 +1,6 @@
 // Temperatures in a range, both ends included.
+#![tactic(auto)]
+
 ghost use Rattle.std.specs.Prelude.{◌≡◌};
 ghost use Rattle.limits.specs.Range.{within, temperature};
 

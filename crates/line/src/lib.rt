@@ -14,7 +14,7 @@ mod lines;
 mod text;
 
 // What stands between two parts of the input: the state, and the line so far, of which at most 16 bytes are kept.
-#[derive(Drop)]
+#[derive(Clone, Copy)]
 pub struct Between {
     pub state: State,
     pub line: [u8; 16],
@@ -22,14 +22,14 @@ pub struct Between {
 }
 
 // What a call leaves beside the record and the text: what the next part begins with, and where the text ends.
-#[derive(Drop)]
+#[derive(Clone, Copy)]
 pub struct Ran {
     pub between: Between,
     pub end: usize,
 }
 
 // What the beginning leaves beside the record: the same, and whether the bank is accepted.
-#[derive(Drop)]
+#[derive(Clone, Copy)]
 pub struct Started {
     pub ran: Ran,
     pub is_accepted: bool,

@@ -27,7 +27,7 @@ fn event(bank: &[u8], store: &mut [u8], state: State, event: Event) -> Outcome
 }
 
 // What a line leaves beside the record: the state, and the number of its answer.
-#[derive(Drop)]
+#[derive(Clone, Copy)]
 struct Said {
     state: State,
     number: u8,

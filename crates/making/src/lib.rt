@@ -11,7 +11,7 @@ use run::dark_run;
 use setting::Checked;
 
 // What a call leaves beside the record.
-#[derive(Drop)]
+#[derive(Clone, Copy)]
 pub struct Ran {
     pub power: bool,
     pub run: Run,

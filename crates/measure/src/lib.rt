@@ -1,11 +1,13 @@
 // The measured value: what a reading makes of it, and the whole number that it counts as.
+#![tactic(auto)]
+
 ghost use Rattle.std.specs.Prelude.{◌≡◌};
 ghost use Rattle.measure.specs.Bound.{Near};
 ghost use Rattle.measure.specs.Asked.{AboveNought};
 ghost use Rattle.measure.specs.Filter.{kept, lagged, within, rounded, nearest, first_of, after_of, whole_of, sound_of, outside_of};
 
 // The measured value: none read yet, past an end of the range, or the filtered value y.
-#[derive(Drop)]
+#[derive(Clone, Copy)]
 pub enum Measured {
     NoReading,
     Over,
@@ -14,7 +16,7 @@ pub enum Measured {
 }
 
 // What the sensor reads: past an end of its range, or the value v.
-#[derive(Drop)]
+#[derive(Clone, Copy)]
 pub enum Reading {
     Over,
     Under,
@@ -22,7 +24,7 @@ pub enum Reading {
 }
 
 // The measured whole value, where there is a filtered value.
-#[derive(Drop)]
+#[derive(Clone, Copy)]
 pub enum Whole {
     Nothing,
     Value(i16),

@@ -5,13 +5,13 @@ use position::{Command, Position, Shown};
 use setting::Checked;
 
 // The settings that go beside the bank.
-#[derive(Drop)]
+#[derive(Clone, Copy)]
 pub struct Config {
     pub alarms: AlarmSettings,
 }
 
 // What an event moves.
-#[derive(Drop)]
+#[derive(Clone, Copy)]
 pub struct Run {
     pub position: Position,
     pub unsaved: u8, // u, ticks since the last save
@@ -20,7 +20,7 @@ pub struct Run {
 }
 
 // The events.
-#[derive(Drop)]
+#[derive(Clone, Copy)]
 pub enum Event {
     Tick(Reading),
     Press(Command),
@@ -29,14 +29,14 @@ pub enum Event {
 }
 
 // What a line or a kind asks for: an event, or nothing if it has no known form.
-#[derive(Drop)]
+#[derive(Clone, Copy)]
 pub enum Asked {
     NoForm,
     Of(Event),
 }
 
 // What an event does to the credits: nothing, one more to a step, all to 0, or all as the record has them.
-#[derive(Drop)]
+#[derive(Clone, Copy)]
 pub enum Credit {
     Keep,
     Cook(u8),
@@ -45,7 +45,7 @@ pub enum Credit {
 }
 
 // The controller's own refusals. `number_of` gives the document's number of each.
-#[derive(Drop)]
+#[derive(Clone, Copy)]
 pub enum Refusal {
     Unsound,
     Buffer,
@@ -62,7 +62,7 @@ pub enum Refusal {
 }
 
 // What a caller gets back. `numbers_of` gives the document's number and values of each case.
-#[derive(Drop)]
+#[derive(Clone, Copy)]
 pub enum Answer {
     Accepted(Shown),
     Bank(Checked),
@@ -70,21 +70,21 @@ pub enum Answer {
 }
 
 // What a list of events is answered: 99 for bytes that are no list, or the answer to its last event.
-#[derive(Drop)]
+#[derive(Clone, Copy)]
 pub enum Reply {
     NoForm,
     Given(Answer),
 }
 
 // What a command makes of a position.
-#[derive(Drop)]
+#[derive(Clone, Copy)]
 pub enum Move {
     To(Position),
     No(Refusal),
 }
 
 // What an event does: the power and the run that it leaves, what it does to the credits, whether it saves, and its answer.
-#[derive(Drop)]
+#[derive(Clone, Copy)]
 pub struct Effect {
     pub power: bool,
     pub run: Run,

@@ -1,7 +1,7 @@
 // A position in a pattern, what a bank says there, and what is shown of it. There is no code here.
 
 // Where a run stands.
-#[derive(Drop)]
+#[derive(Clone, Copy)]
 pub struct Position {
     pub mode: u8, // 0 stopped, 1 running, 2 paused, 3 ended
     pub pattern: u8, // p
@@ -13,7 +13,7 @@ pub struct Position {
 }
 
 // What a bank says at a position: of its step, and of its pattern.
-#[derive(Drop)]
+#[derive(Clone, Copy)]
 pub struct Here {
     pub target: i16,
     pub endless: bool,
@@ -28,7 +28,7 @@ pub struct Here {
 }
 
 // The four time signals, on or off.
-#[derive(Drop)]
+#[derive(Clone, Copy)]
 pub struct Signals {
     pub first: bool,
     pub second: bool,
@@ -37,14 +37,14 @@ pub struct Signals {
 }
 
 // What an accepted answer carries.
-#[derive(Drop)]
+#[derive(Clone, Copy)]
 pub struct Shown {
     pub value: i16, // set value
     pub signals: Signals,
 }
 
 // The commands. Select carries the pattern asked for.
-#[derive(Drop)]
+#[derive(Clone, Copy)]
 pub enum Command {
     Select(i32),
     Start,

@@ -34,7 +34,7 @@ passed {result} same h = sym same ∙ not-false result h
 
 -- a signed local is its bits, and what a call is handed is read from them
 pub bits : {z : ℤ} → mag z < 32768 → to_z w16 (of_z w16 z) ≡ z
-bits l = to_z-of_z (record { sfits = l })
+bits l = to_z-of_z {w = w16} (record { sfits = l })
 
 pub within-bits : {low x high : ℤ} → SFits w16 low → SFits w16 x → SFits w16 high
     → within (to_z w16 (of_z w16 low)) (to_z w16 (of_z w16 x)) (to_z w16 (of_z w16 high)) ≡ within low x high
@@ -135,7 +135,7 @@ stop p k rest = refl
 pub first-left : (found : Checked) (xs : List (ℕ × Bool)) → first_of found xs ≡ Accepted → found ≡ Accepted
 unfolding first_of
 first-left found [] same = same
-first-left found (x ∷ xs) same = (then-holds found _ (first-left _ xs same)).0
+first-left found (x ∷ xs) same = (then-holds found _ (first-left (then found (test x.1 (Setting x.0) Accepted)) xs same)).0
 
 test-right : (t : Bool) (o : ℕ) → then Accepted (test t (Setting o) Accepted) ≡ Accepted → t ≡ true
 unfolding then test

@@ -1,5 +1,7 @@
 // The settings of a bank: their reader and their check. A read past the end of a bank gives 0, so no function here asks anything of its
 // caller.
+#![tactic(auto)]
+
 ghost use Rattle.std.specs.Prelude.{◌≡◌};
 ghost use Rattle.setting.specs.Found.{numbers_of};
 ghost use Rattle.setting.specs.Setting.{settings_found, settings_in};
@@ -12,7 +14,7 @@ mod range;
 mod reading;
 
 // What the check of a bank finds. `numbers_of` gives the document's number and values of each case.
-#[derive(Drop)]
+#[derive(Clone, Copy)]
 pub enum Checked {
     Accepted,
     Short,
@@ -22,7 +24,7 @@ pub enum Checked {
 }
 
 // The settings as they stand in a bank.
-#[derive(Drop)]
+#[derive(Clone, Copy)]
 pub struct Settings {
     pub patterns: u8, // n
     pub start: u8, // start choice: 0 from measured value, 1 from start value

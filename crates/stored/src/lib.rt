@@ -1,4 +1,6 @@
 // Numbers written into bytes, low byte first, at an offset. A write that does not fit changes nothing, so no function asks anything of its caller.
+#![tactic(auto)]
+
 ghost use Rattle.std.specs.Prelude.{◌≡◌, cond, ◌+◌, ◌≤◌, length, eqb, leb};
 ghost use Rattle.std.proofs.lemmas.List.Edits.{sets};
 ghost use Rattle.field.specs.Field.{digits, stored};

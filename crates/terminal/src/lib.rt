@@ -9,14 +9,14 @@ use libc::STDIN_FILENO;
 use line::Between;
 
 // Lines that were run: what they leave, and whether all of them were read, run and shown.
-#[derive(Drop)]
+#[derive(Clone, Copy)]
 pub struct Ended {
     pub between: Between,
     pub is_whole: bool,
 }
 
 // Lines that are run: the same, and whether more are to be read.
-#[derive(Drop)]
+#[derive(Clone, Copy)]
 struct Turn {
     between: Between,
     goes_on: bool,
