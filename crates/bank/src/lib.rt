@@ -1,5 +1,7 @@
 // The bank of patterns: its check, and what it says of one pattern or step. A read past the end of a bank gives 0, so no
 // function here asks anything of its caller.
+#![tactic(auto)]
+
 ghost use Rattle.std.specs.Prelude.{◌≡◌};
 ghost use Rattle.setting.specs.Found.{numbers_of};
 ghost use Rattle.bank.specs.Check.{found_in};

@@ -8,31 +8,25 @@ use lib.ListN.{length, drop, get_or, length-set, drop_of_length-le}
 use mathlib.Core.List.{List, []}
 use lib.IntN.{ℤ, pos}
 use mir.Facts.{to_z-of_z}
+use mir.Syntax.{w64}
 use Rattle.decimal.specs.Text.{text, line_of, put, put_text}
 use Rattle.decimal.proofs.Laws.{put_is, end_is, length-text, line-turn, put-fits, put-past}
+use Rattle.decimal.proofs.put_line.Invariants.{Due}
 use Rattle.decimal.proofs.put_line.Goals as goal
 use Rattle.decimal.proofs.put_line.Goals.{After-separator}
 
-record Due (out₀ : List ℕ) (at : ℕ) (numbers : List ℤ) (out : List ℕ) (to i : ℕ) : Type 0 where
-  pub within : i ≤ length numbers
-  pub long : length out ≡ length out₀
-  pub room : to + 21 * (length numbers - i) ≤ length out₀
-  pub gives : put_text out to (line_of (drop i numbers)) ≡ put_text out₀ at (line_of numbers)
-
 -- what the call of `put_number` says, of the number itself
-written : (c : After-separator) →
-    let l = c.loop-i in
+written : (c : After-separator) → let l = c.loop-i in
     let numbers = c.args.numbers.now in
     let left = c.put_number-to in
-    put left.new.0 left.result ≡ put_text l.out l.to (text (get_or numbers l.i (pos 0)))
+    put left.new.out left.result ≡ put_text l.out l.to (text (get_or numbers l.i (pos 0)))
 written c =
     let l = c.loop-i in
-    let same = to_z-of_z (record { sfits = c.put_number-arg-in-loop-i-1.given }) in
+    let same = to_z-of_z {w = w64} (record { sfits = c.put_number-arg-in-loop-i-1.given }) in
     c.put_number-to.ensures ∙ ap (λ (z : ℤ). put_text l.out l.to (text z)) same
 
 -- and so how much it wrote
-wrote : (c : After-separator) →
-    let l = c.loop-i in
+wrote : (c : After-separator) → let l = c.loop-i in
     c.put_number-to.result ≤ l.to + 20
 wrote c =
     let l = c.loop-i in

@@ -12,8 +12,15 @@ use Rattle.decimal.specs.Text.{text, line_of, put, put_text}
 use Rattle.decimal.proofs.Laws.{put_is, end_is, length-text, line-turn, put-fits, put-past}
 use Rattle.decimal.proofs.put_line.Given as goal
 
+pub record Due (out₀ : List ℕ) (at : ℕ) (numbers : List ℤ) (out : List ℕ) (to i : ℕ) : Type 0 where
+  pub within : i ≤ length numbers
+  pub long : length out ≡ length out₀
+  pub room : to + 21 * (length numbers - i) ≤ length out₀
+  pub gives : put_text out to (line_of (drop i numbers)) ≡ put_text out₀ at (line_of numbers)
+
 abbrev pub invariant-loop-i : goal.invariant-loop-i
 invariant-loop-i l = Due l.initial.out l.at l.numbers l.out l.to l.i
 
 abbrev pub decreases-loop-i : goal.decreases-loop-i
 decreases-loop-i l = length l.numbers - l.i
+

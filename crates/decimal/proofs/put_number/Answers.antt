@@ -49,7 +49,7 @@ returns c =
     let digits = decimal 19 (ones w64 - of_z w64 a.x + 1) in
     let whole : ◌≡◌ {A = List ℕ} (45 ∷ digits) (text a.x) = sym (text-below-0 a.x c.ranges.x below-0) in
     let left = c.put_digits-2 in
-    let behind : put left.new.0 left.result ≡ put_text (set out a.at 45) (a.at + 1) digits = left.ensures ∙ rw (to_z_pos w64 h.0) in
+    let behind : put left.new.out left.result ≡ put_text (set out a.at 45) (a.at + 1) digits = left.ensures ∙ rw (to_z_pos w64 h.0) in
     put_is (bytes-are behind ∙ rw (add-one a.at) (ap (sets out a.at) whole)) (omega (arith, end_is behind, ap length whole))
 
 pub put_digits-requires-2 : goal.put_digits-requires-2

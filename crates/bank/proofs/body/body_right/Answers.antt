@@ -1,0 +1,14 @@
+-- `bank::body::body_right` meets its contract.
+-- Assumes nothing.
+use Prim.Native.Nat.{◌+◌}
+use native.Mathlib.Omega.{arith}
+use Rattle.field.proofs.Laws.{field-one}
+use Rattle.setting.proofs.Laws.{both-and}
+use borrow.Author.Rules.{rules}
+use Rattle.bank.proofs.body.body_right.Goals as goal
+
+pub overflow_cast-result : goal.overflow_cast-result
+overflow_cast-result c = omega (arith, c.shared_slice_known-2-1.given (c.args.at + 1))
+
+pub returns : goal.returns
+returns c = simp (field-one, both-and)
