@@ -1,4 +1,6 @@
 // A bank as arrays: what is written and what is read. There is no code here.
+#![tactic(auto)]
+
 use bank::Step;
 use setting::{Checked, Settings};
 

@@ -1,4 +1,5 @@
 // A position in a pattern, what a bank says there, and what is shown of it. There is no code here.
+#![tactic(auto)]
 
 // Where a run stands.
 #[derive(Clone, Copy)]
