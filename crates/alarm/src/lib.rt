@@ -1,4 +1,5 @@
 // Four event alarms: their settings, and what is kept of them. There is no code here.
+#![tactic(auto)]
 
 // The settings of an alarm.
 #[derive(Clone, Copy)]

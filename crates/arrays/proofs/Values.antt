@@ -59,18 +59,14 @@ pub record PatternsFit (ps : Patterns) : Type 0 where
 -- ---- in a program: whatever the borrow checker calls a value of the type
 
 -- an array of numbers of a width
-each_below : (width : Width) (xs : List ℕ) (us : List Val) → shadow (each ℕ (UInt width).own_val (map (λ v. v) xs) us) → 0 < 2 ^ bits width → (i : ℕ) → get_or xs i 0 < 2 ^ bits width
+each_below : (width : Width) (xs : List ℕ) (us : List Val) → shadow (each ℕ (UInt width).own_val xs us) → 0 < 2 ^ bits width → (i : ℕ) → get_or xs i 0 < 2 ^ bits width
 each_below width [] us h z i = z
 each_below width (x ∷ xs) [] h z i = absurd h
 each_below width (x ∷ xs) (value ∷ us) h z zero = h.0.1
 each_below width (x ∷ xs) (value ∷ us) h z (suc i) = each_below width xs us h.1 z i
 
-four-of : (width : Width) (xs : List ℕ) (vs : List Val) → 0 < 2 ^ bits width → Is (Array (UInt width) 4) (map (λ v. v) xs) vs → Four (2 ^ bits width) xs
-four-of width xs vs z h = record { size = sym (length-map xs (λ v. v)) ∙ h.1.0.1; below = each_below width xs h.0 h.1.1 z }
-
--- as a parameter, and not as a field of a struct
 pub four-in : (width : Width) (xs : List ℕ) (vs : List Val) → 0 < 2 ^ bits width → Is (Array (UInt width) 4) xs vs → Four (2 ^ bits width) xs
-four-in width xs vs z h = four-of width xs vs z (subst (λ (ys : List ℕ). Is (Array (UInt width) 4) ys vs) (sym (map-id xs)) h)
+four-in width xs vs z h = record { size = h.1.0.1; below = each_below width xs h.0 h.1.1 z }
 
 pub settings-fit : (given : Settings) (vs : List Val) → Is (row settings.the_type) given vs → SettingsFit given
 settings-fit given vs h =
@@ -85,10 +81,10 @@ settings-fit given vs h =
       initial = record { sfits = f.1.1.1.1.1.0.1 };
       width = f.1.1.1.1.1.1.0.1;
       filter = f.1.1.1.1.1.1.1.0.1;
-      zones = four-of w16 given.zones _ (omega arith) t.0;
-      waits = four-of w16 given.waits _ (omega arith) t.1.0;
-      on = four-of w16 given.on _ (omega arith) t.1.1.0;
-      off = four-of w16 given.off _ (omega arith) t.1.1.1.0;
+      zones = four-in w16 given.zones _ (omega arith) t.0;
+      waits = four-in w16 given.waits _ (omega arith) t.1.0;
+      on = four-in w16 given.on _ (omega arith) t.1.1.0;
+      off = four-in w16 given.off _ (omega arith) t.1.1.1.0;
     }
 
 pub fours : (given : Settings) (vs : List Val) → Is (row settings.the_type) given vs → Fours given
@@ -101,10 +97,10 @@ step_fits one vs h =
       target = record { sfits = f.0.1 };
       minutes = f.1.0.1;
       wait = f.1.1.0.1;
-      signals = four-of w8 one.signals _ (omega arith) f.1.1.1.0;
+      signals = four-in w8 one.signals _ (omega arith) f.1.1.1.0;
     }
 
-steps-fit : (ss : List Step) (us : List Val) → shadow (each (step.the_field).row.Denot (step.the_field).row.own_val (map (step.the_field).into ss) us) → All StepFits ss
+steps-fit : (ss : List Step) (us : List Val) → shadow (each (step.the_field).row.Denot (step.the_field).row.own_val ss us) → All StepFits ss
 steps-fit [] us h = tt
 steps-fit (one ∷ ss) [] h = absurd h
 steps-fit (one ∷ ss) (value ∷ us) h = (step_fits one (value ∷ []) h.0, steps-fit ss us h.1)
@@ -112,4 +108,4 @@ steps-fit (one ∷ ss) (value ∷ us) h = (step_fits one (value ∷ []) h.0, ste
 pub patterns-fit : (ps : Patterns) (vs : List Val) → Is (row patterns.the_type) ps vs → PatternsFit ps
 patterns-fit ps vs h =
     let a = h.1.1.1.1.0 in
-    record { size = sym (length-map ps.steps _) ∙ a.1.0.1; steps = steps-fit ps.steps a.0 a.1.1 }
+    record { size = a.1.0.1; steps = steps-fit ps.steps a.0 a.1.1 }
