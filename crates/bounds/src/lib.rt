@@ -1,5 +1,7 @@
 // Alarms cleared and kept, and whether they are within their bounds; whether their settings are in range. Tests are joined by `&` and `|`, which have
 // no branch.
+#![tactic(auto)]
+
 ghost use Rattle.std.specs.Prelude.{◌≡◌};
 ghost use Rattle.alarm.specs.Alarm.{all_clear, kept_in, bounded, all_bounded};
 ghost use Rattle.alarm.specs.Idle.{is_clear, all_are_clear};

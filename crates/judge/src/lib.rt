@@ -1,4 +1,6 @@
 // What a tick makes of the alarms. Tests are joined by `&` and `|`, which have no branch.
+#![tactic(auto)]
+
 ghost use Rattle.std.specs.Prelude.{◌≡◌};
 ghost use Rattle.measure.specs.Filter.{whole_of};
 ghost use Rattle.position.specs.Program.{set_value_of};

@@ -1,4 +1,6 @@
 // What the controller's definitions speak of: a run, what an event does to it, and the answers. There is no code here.
+#![tactic(auto)]
+
 use alarm::{AlarmSettings, Alarms};
 use measure::{Measured, Reading};
 use position::{Command, Position, Shown};
