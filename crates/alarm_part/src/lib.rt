@@ -1,4 +1,6 @@
 // The alarms' part of the record: alarm by alarm, flags and delay count, low byte first.
+#![tactic(auto)]
+
 ghost use Rattle.std.specs.Prelude.{◌≡◌, ◌<◌};
 ghost use Rattle.field.specs.Row.{row, stored_row};
 ghost use Rattle.alarm.specs.Part.{alarm_widths, alarm_numbers, alarm_at};

@@ -1,4 +1,6 @@
 // Small parts of a state: the run with power off, the place of a step's credit, and one more.
+#![tactic(auto)]
+
 ghost use Rattle.std.specs.Prelude.{◌≡◌, ◌+◌, ◌-◌, min};
 ghost use Rattle.plain.specs.Event.{dark_run};
 

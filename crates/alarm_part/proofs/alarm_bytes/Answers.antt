@@ -6,13 +6,12 @@ use Rattle.field.specs.Field.{digits}
 use Rattle.field.specs.Row.{row}
 use Rattle.stored.proofs.Part.{byte-digit}
 use borrow.Author.Rules.{rules}
-use Rattle.alarm_part.proofs.alarm_bytes.Statement.{statement}
-use Rattle.alarm_part.proofs.alarm_bytes.Tie as tie
+use Rattle.alarm_part.proofs.alarm_bytes.Goals as goal
 
-returns : tie.Need-returns
+pub returns : goal.returns
 unfolding row digits
 returns c =
-    let alarms = c.before.before.before.before.before.before.before.before.before.before.before.before.args.alarms in
+    let alarms = c.args.alarms in
     let first = byte-digit alarms.first.flags (search rules) in
     let second = byte-digit alarms.second.flags (search rules) in
     let third = byte-digit alarms.third.flags (search rules) in
@@ -21,17 +20,3 @@ returns c =
     ∷ second i ∷ alarms.second.count % 256 ∷ alarms.second.count / 256 % 256
     ∷ third i ∷ alarms.third.count % 256 ∷ alarms.third.count / 256 % 256
     ∷ fourth i ∷ alarms.fourth.count % 256 ∷ alarms.fourth.count / 256 % 256 ∷ []
-
-pub alarm-bytes-spec : {M : Type 1} → statement M
-alarm-bytes-spec =
-    tie.close
-    (tie.spec
-    (λ c. search rules)
-    (λ c. search rules)
-    (λ c. search rules)
-    (λ c. search rules)
-    (λ c. search rules)
-    (λ c. search rules)
-    (λ c. search rules)
-    (λ c. search rules)
-    returns)
