@@ -13,26 +13,17 @@ use Rattle.field.specs.Row.{row_at, total}
 use Rattle.field.proofs.Laws.{field-four}
 use Rattle.field.proofs.Rows.{zero-at, read-turn, rows-past, zeros-behind}
 use Rattle.plain.specs.Record.{widths_of, credit_widths, credits_from, credits_in}
-use Rattle.checkpoint.proofs.credit.credits.Statement.{statement}
-use Rattle.checkpoint.proofs.credit.credits.Tie as tie
+use Rattle.checkpoint.proofs.credit.credits.Goals as goal
 
-abbrev invariant-loop : tie.invariant-loop
-invariant-loop store whole cs₀ i₀ cs i =
-    (i ≤ whole) × (length cs ≡ 99) × ((j : ℕ) → i ≤ j → get_or cs j 0 ≡ 0)
-    × (take i cs ++ row_at (replicate (99 - i) 4) store (credits_from + 4 * i) ≡ credits_in store)
-
-abbrev decreases-loop : tie.decreases-loop
-decreases-loop store whole cs₀ i₀ cs i = whole - i
-
-loop-holds : tie.Need-loop-init invariant-loop decreases-loop
+pub loop-i-init : goal.loop-i-init
 unfolding credits_in credit_widths widths_of total
-loop-holds c = (omega arith, refl, λ j h. zero-at 99 j, refl)
+loop-i-init c = (omega arith, refl, λ j h. zero-at 99 j, refl)
 
-loop-again : tie.Need-loop-preserved invariant-loop decreases-loop
+pub loop-i-preserved : goal.loop-i-preserved
 unfolding widths_of total
-loop-again c =
-    let l = c.before.before.before.before.before.before.loop in
-    let store = c.before.before.before.before.before.before.before.before.before.args.store.now in
+loop-i-preserved c =
+    let l = c.loop-i in
+    let store = c.args.store.now in
     let credit : c.join4.result ≡ field 4 store (credits_from + 4 * l.i) = omega (arith, c.join4.ensures, field-four store (credits_from + 4 * l.i)) in (
       omega arith,
       simp length-set l.invariant.1,
@@ -40,62 +31,31 @@ loop-again c =
       rw credit (read-turn store l.cs credits_from l.i 4 99 (omega arith) (omega arith) ∙ l.invariant.3),
     )
 
-returns : tie.Need-returns invariant-loop decreases-loop
+pub returns-then-whole-eq99 : goal.returns-then-whole-eq99
 unfolding row_at
-returns c =
-    let l = c.before.before.loop in
-    let store = c.before.before.before.before.before.args.store.now in
+returns-then-whole-eq99 c =
+    let l = c.loop-i in
+    let store = c.args.store.now in
     let end : l.i ≡ 99 = omega arith in
     let size : length l.cs ≤ 99 = omega arith in
     sym (append-nil (take 99 l.cs) ∙ take_all 99 l.cs size)
     ∙ ap (λ (i : ℕ). take i l.cs ++ row_at (replicate (99 - i) 4) store (credits_from + 4 * i)) (sym end) ∙ l.invariant.3
 
-returns-2 : tie.Need-returns-2 invariant-loop decreases-loop
+pub returns : goal.returns
 unfolding widths_of total
-returns-2 c =
-    let l = c.before.before.before.loop in
-    let whole = c.before.before.before.before.whole-credits.result in
-    let store = c.before.before.before.before.before.before.args.store.now in
+returns c =
+    let l = c.loop-i in
+    let whole = c.whole_credits-whole.result in
+    let store = c.args.store.now in
     let broken : c.long.result ≡ field 4 store (credits_from + 4 * whole) = c.long.ensures in
     let credits = set l.cs whole (field 4 store (credits_from + 4 * whole)) in
     let end : l.i ≡ whole = omega arith in
     let size : length credits ≡ 99 = simp length-set l.invariant.1 in
     let zeros : (j : ℕ) → whole + 1 ≤ j → get_or credits j 0 ≡ 0 =
     λ j h. get_or-set_other l.cs whole j _ 0 (λ q. omega arith) ∙ l.invariant.2 j (omega arith) in
-    let past = rows-past 4 (99 - (whole + 1)) store (credits_from + 4 * (whole + 1)) (omega (arith, c.before.before.before.before.whole-credits.ensures)) in
+    let past = rows-past 4 (99 - (whole + 1)) store (credits_from + 4 * (whole + 1)) (omega (arith, c.whole_credits-whole.ensures)) in
     ap (set l.cs whole) broken
     ∙ zeros-behind credits (whole + 1) 99 size (omega arith) zeros
     ∙ ap (λ (rest : List ℕ). take (whole + 1) credits ++ rest) (sym past)
     ∙ read-turn store l.cs credits_from whole 4 99 (omega arith) (omega arith)
     ∙ ap (λ (i : ℕ). take i l.cs ++ row_at (replicate (99 - i) 4) store (credits_from + 4 * i)) (sym end) ∙ l.invariant.3
-
-pub credits-spec : {M : Type 1} → statement M
-credits-spec =
-    tie.close
-    (tie.spec
-    invariant-loop
-    decreases-loop
-    (λ c κs. search rules)
-    loop-holds
-    (λ c. omega arith)
-    (λ c. omega arith)
-    (λ c. omega arith)
-    (λ c. omega arith)
-    (λ c. omega arith)
-    (λ c. omega arith)
-    (λ c. omega arith)
-    (λ c. omega arith)
-    (λ c. omega arith)
-    (λ c κs. search rules)
-    (λ c. omega arith)
-    (λ c. omega arith)
-    (λ c. omega arith)
-    (λ c. omega arith)
-    loop-again
-    returns
-    (λ c. omega arith)
-    (λ c. omega arith)
-    (λ c κs. search rules)
-    (λ c. omega arith)
-    (λ c. omega arith)
-    returns-2)
