@@ -2,6 +2,7 @@
 -- Assumes nothing.
 use mathlib.Core.Path.{◌∙◌}
 use mir.Facts.{to_z-of_z}
+use mir.Syntax.{w16}
 use Rattle.plain.specs.Record.{position_in}
 use borrow.Author.Rules.{rules}
 use Rattle.checkpoint.proofs.read_position.Goals as goal
@@ -9,7 +10,7 @@ use Rattle.checkpoint.proofs.read_position.Goals as goal
 pub returns : goal.returns
 unfolding position_in
 returns c =
-    let base = to_z-of_z (record { sfits = c.signed.type_inv }) ∙ c.signed.ensures in
+    let base = to_z-of_z {w = w16} (record { sfits = c.signed.type_inv }) ∙ c.signed.ensures in
     λ i. record {
       mode = c.byte.ensures i;
       pattern = c.byte-2.ensures i;

@@ -22,7 +22,7 @@ pub loop-i-preserved : goal.loop-i-preserved
 unfolding credit_widths widths_of total
 loop-i-preserved c =
     let l = c.loop-i in
-    let credits = c.args.t2 in
+    let credits = c.args.credits in
     let at = credits_from + 4 * l.i in
     let credit = get_or credits l.i 0 in
     let put : c.put.new.buffer ≡ stored 4 l.store at credit = c.put.ensures in
@@ -42,4 +42,4 @@ returns c =
     let a = c.args in
     let i : l.i ≡ 99 = omega arith in
     let none : drop l.i credit_widths ≡ [] = drop_of_length-le credit_widths {i = l.i} (omega (arith, length-replicate {A = ℕ} 99 4)) in
-    ap (λ (widths : List ℕ). sets l.store (credits_from + 4 * l.i) (row widths (drop l.i a.t2))) (sym none) ∙ l.invariant.2
+    ap (λ (widths : List ℕ). sets l.store (credits_from + 4 * l.i) (row widths (drop l.i a.credits))) (sym none) ∙ l.invariant.2
