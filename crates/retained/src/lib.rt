@@ -1,5 +1,7 @@
 // A position that comes back from a record: whether it is readable, and what a return makes of it. Tests are joined by `&` and `|`, which have
 // no branch.
+#![tactic(auto)]
+
 ghost use Rattle.std.specs.Prelude.{◌≡◌, cond};
 ghost use Rattle.position.specs.Command.{stop_position};
 ghost use Rattle.position.specs.Return.{goes_on, return_position, times_right, cleared_of, readable_of};

@@ -4,7 +4,6 @@ use Prim.Native.Nat.{◌+◌, ◌-◌}
 use mathlib.Core.Path.{◌≡◌, ap, ◌∙◌}
 use native.Mathlib.Omega.{arith}
 use mir.Facts.{to_z-of_z}
-use borrow.Author.Rules.{rules}
 use Rattle.position.specs.Tests.{apart}
 use Rattle.position.specs.Raised.{raised}
 use Rattle.position.proofs.Raised.{apart-raised}

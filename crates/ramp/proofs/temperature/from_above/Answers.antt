@@ -3,7 +3,6 @@ use native.Mathlib.Omega.{arith}
 use mir.Syntax.{w16, w32}
 use mir.Val.{SFits}
 use mir.Facts.{to_z-of_z, to_z_pos, sfits_widen}
-use borrow.Author.Rules.{rules}
 use Rattle.position.specs.Raised.{lowered}
 use Rattle.position.proofs.Raised.{lowered-fits}
 use Rattle.ramp.proofs.temperature.from_above.Goals as goal

@@ -5,7 +5,6 @@ use lib.Dec.{leb}
 use mir.Syntax.{w16}
 use mir.Val.{SFits}
 use mir.Facts.{to_z-of_z}
-use borrow.Author.Rules.{rules}
 use Rattle.position.specs.Tests.{apart}
 use Rattle.position.specs.Program.{near_of}
 use Rattle.ramp.proofs.temperature.near.Goals as goal

@@ -1,18 +1,16 @@
 -- `ramp::value::part` meets its contract: m of t parts of a distance are no more than it, for m at most t. Assumes nothing.
 use Prim.Native.Nat.{ℕ, ◌*◌, ◌/◌, ◌≤◌, min}
 use mathlib.Core.Path.{◌≡◌, ap}
-use mathlib.Core.Logic.{⊎_elim}
 use native.Mathlib.Nat.{mul-le-mul}
 use native.Mathlib.Omega.{arith}
-use borrow.Author.Rules.{rules}
 use Rattle.position.proofs.SetValue.{part-le}
 use Rattle.ramp.proofs.value.part.Goals as goal
-use Rattle.ramp.proofs.value.part.Goals.{After-row_known-1}
+use Rattle.ramp.proofs.value.part.Goals.{After-row_known-1, then-e-t, else-e-t}
 
 -- m is the lesser of e and t
 least : (c : After-row_known-1) → c.if-e-t.m ≡ min c.args.e c.args.t
 least c =
-    ⊎_elim (λ x. omega arith) (λ x. omega arith) c.if-e-t.branch
+    elim c.if-e-t.branch [ then-e-t w ↦ omega arith | else-e-t w ↦ omega arith ]
 
 low : (c : After-row_known-1) → c.args.distance * c.if-e-t.m / c.args.t ≤ c.args.distance
 low c =

@@ -28,5 +28,5 @@ pub returns : goal.returns
 unfolding ramp_of
 returns c =
     rw (either-or (eqb c.args.here.time 0) c.args.here.endless ∙ c.if-here.false)
-    (to_z-of_z (record { sfits = c.moved.type_inv }) ∙ c.moved.ensures
+    (to_z-of_z {w = w16} (record { sfits = c.moved.type_inv }) ∙ c.moved.ensures
     ∙ rw (c.part.ensures.0, c.distance.ensures, to_z-of_z ((let target : SFits w16 c.args.here.target = search rules in target)), to_z-of_z c.ranges.b) refl)

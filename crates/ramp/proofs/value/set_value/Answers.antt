@@ -23,7 +23,7 @@ unfolding active
 returns-then-position c =
     let here = c.args.here in
     let position = c.args.position in
-    to_z-of_z (record { sfits = c.ramp.type_inv }) ∙ c.ramp.ensures ∙ ap (λ (b : ℤ). ramp_of here b position.elapsed) (to_z-of_z ((let base : SFits w16 c.args.position.base = search rules in base)))
+    to_z-of_z {w = w16} (record { sfits = c.ramp.type_inv }) ∙ c.ramp.ensures ∙ ap (λ (b : ℤ). ramp_of here b position.elapsed) (to_z-of_z ((let base : SFits w16 c.args.position.base = search rules in base)))
     ∙ sym (set-plain here position c.if-here.false ∙ rw ((let by_mode : (t : Bool) → (eqb c.args.position.mode 1 || eqb c.args.position.mode 2) ≡ t → active c.args.position ≡ t = λ t h. either-or _ _ ∙ h in by_mode) true c.if-position.true))
 
 pub returns : goal.returns

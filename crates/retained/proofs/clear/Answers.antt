@@ -11,8 +11,7 @@ use borrow.Author.Tests.{ne_eqb}
 use Rattle.position.specs.Tests.{zero_z}
 use Rattle.position.specs.Return.{cleared_of}
 use Rattle.position.proofs.Tests.{both-and}
-use Rattle.retained.proofs.clear.Statement.{statement}
-use Rattle.retained.proofs.clear.Tie as tie
+use Rattle.retained.proofs.clear.Goals as goal
 
 -- a temperature is 0 where its 16 bits are
 zero_bits : (z : ℤ) → SFits w16 z → eqb (of_z w16 z) 0 ≡ zero_z z
@@ -20,14 +19,7 @@ unfolding zero_z
 zero_bits (pos m) h = refl
 zero_bits (negsuc m) h = ne_eqb (65536 - suc m) 0 (omega arith) ∙ sym (ne_eqb (suc m) 0 (omega arith))
 
-base : (c : tie.Start) → SFits w16 c.args.position.base
-base c = search rules
-
-returns : tie.Need-returns
+pub returns : goal.returns
 unfolding cleared_of
 returns c =
-    let start = c.before.before.before.before in
-    rw (zero_bits start.args.position.base (base start)) (simp both-and refl)
-
-pub clear_spec : {M : Type 1} → statement M
-clear_spec = tie.close (tie.spec returns)
+    rw (zero_bits c.args.position.base ((let base : SFits w16 c.args.position.base = search rules in base))) (simp both-and refl)

@@ -12,8 +12,7 @@ use Rattle.position.specs.Tests.{all, same_z}
 use Rattle.position.specs.Program.{is_timer}
 use Rattle.position.proofs.Tests.{both-and, both-on}
 use Rattle.position.proofs.Timer.{same_self, same-is}
-use Rattle.program.proofs.place.is_timer.Statement.{statement}
-use Rattle.program.proofs.place.is_timer.Tie as tie
+use Rattle.program.proofs.place.is_timer.Goals as goal
 
 same_bits : (value other : ℤ) → SFits w16 value → SFits w16 other → eqb (of_z w16 value) (of_z w16 other) ≡ same_z value other
 same_bits value other fits also = go (same_z value other) refl
@@ -26,14 +25,7 @@ same_bits value other fits also = go (same_z value other) refl
         let equal : value ≡ other = sym (to_z-of_z fits) ∙ ap (to_z w16) bits ∙ to_z-of_z also in
         false≢true (sym same ∙ ap (same_z value) (sym equal) ∙ same_self value))
 
-low : (c : tie.Start) → SFits w16 c.args.settings.low
-low c = search rules
-
-returns : tie.Need-returns
+pub returns : goal.returns
 unfolding is_timer all
 returns c =
-    let start = c.before.before.before in
-    rw (same_bits start.args.target start.args.settings.low start.ranges.target (low start)) (simp (both-on, both-and) refl)
-
-pub is-timer-spec : {M : Type 1} → statement M
-is-timer-spec = tie.close (tie.spec returns)
+    rw (same_bits c.args.target c.args.settings.low c.ranges.target ((let low : SFits w16 c.args.settings.low = search rules in low))) (simp (both-on, both-and) refl)
