@@ -1,10 +1,10 @@
 -- What every value of the types that the writer takes has: numbers that fit their fields, and arrays of their lengths.
 -- Assumes nothing.
-use mathlib.Core.Path.{◌≡◌, sym, ◌∙◌, subst}
-use mathlib.Core.List.{List, [], ◌∷◌, map, map-id}
+use mathlib.Core.Path.{◌≡◌}
+use mathlib.Core.List.{List, [], ◌∷◌}
 use Prim.Native.Nat.{ℕ, zero, suc, ◌<◌, ◌^◌}
 use native.Mathlib.Omega.{arith}
-use lib.ListN.{length, get_or, length-map}
+use lib.ListN.{length, get_or}
 use mir.Syntax.{Width, w8, w16}
 use mir.Val.{Val, SFits, bits}
 use denote.Laws.{Is}
@@ -100,7 +100,7 @@ step_fits one vs h =
       signals = four-in w8 one.signals _ (omega arith) f.1.1.1.0;
     }
 
-steps-fit : (ss : List Step) (us : List Val) → shadow (each (step.the_field).row.Denot (step.the_field).row.own_val ss us) → All StepFits ss
+steps-fit : (ss : List Step) (us : List Val) → shadow (each Step (row step.the_type).own_val ss us) → All StepFits ss
 steps-fit [] us h = tt
 steps-fit (one ∷ ss) [] h = absurd h
 steps-fit (one ∷ ss) (value ∷ us) h = (step_fits one (value ∷ []) h.0, steps-fit ss us h.1)

@@ -1,4 +1,6 @@
 // A bank read into arrays.
+#![tactic(auto)]
+
 ghost use Rattle.std.specs.Prelude.{◌≡◌};
 ghost use Rattle.arrays.specs.Read.{given, read_of};
 
