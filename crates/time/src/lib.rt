@@ -1,5 +1,7 @@
 // What time makes of a position: a second of a running step, and next; and a feed, which is next. Tests are joined by `&` and `|`, which have
 // no branch.
+#![tactic(auto)]
+
 ghost use Rattle.std.specs.Prelude.{◌≡◌};
 ghost use Rattle.position.specs.Program.{past_of, in_zone_of, second_position, leaves_of, end_position, next_position, tick_position};
 ghost use Rattle.position.specs.Command.{feed_position};
