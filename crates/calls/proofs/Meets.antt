@@ -67,5 +67,5 @@ module _ (bank config store state events : List ℕ) where
         of = left;
         demand = demand3 setup store ok whole (events_in events);
         is = ran;
-        read = ap (λ (left_by_lem : After). state_in left_by.state) ran ∙ state-back left.state (final-carriable setup ok store whole (events_in events));
+        read = ap (λ (left_by : After). state_in left_by.state) ran ∙ state-back left.state (final-carriable setup ok store whole (events_in events));
       }

@@ -1,4 +1,6 @@
 // Making a controller: a fresh one, which is saved, or none. The bank is checked first.
+#![tactic(auto)]
+
 ghost use Rattle.std.specs.Prelude.{◌≡◌};
 ghost use Rattle.plain.specs.Run.{fresh_run};
 ghost use Rattle.plain.specs.Setup.{over};
