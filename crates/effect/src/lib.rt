@@ -1,4 +1,6 @@
 // What an event does to a run; and a list of events run from making on. Each call checks the bank.
+#![tactic(auto)]
+
 ghost use Rattle.std.specs.Prelude.{◌≡◌};
 ghost use Rattle.plain.specs.Setup.{over};
 ghost use Rattle.plain.specs.Event.{final};

@@ -15,7 +15,9 @@ pub returns-then-position : goal.returns-then-position
 returns-then-position c =
     let whole-value = c.whole_value in
     let mode = c.args.position.mode in
-    rw (c.all_judged.ensures, to_z-of_z ((let value : SFits w16 c.in-Value.whole = record { sfits = c.in-Value.known_told-1-own.given.0.1 } in value)), (let set : to_z w16 (of_z w16 c.set_value.result) ≡ set_value_of c.args.here c.args.position = to_z-of_z (record { sfits = c.set_value.type_inv }) ∙ c.set_value.ensures in set))
+    let value : SFits w16 c.in-Value.whole = record { sfits = c.in-Value.known_told-1-own.given.0.1 } in
+    let set : to_z w16 (of_z w16 c.set_value.result) ≡ set_value_of c.args.here c.args.position = to_z-of_z {w = w16} (record { sfits = c.set_value.type_inv }) ∙ c.set_value.ensures in
+    rw (c.all_judged.ensures, to_z-of_z value, set)
     (judged-leaves _ mode _ _ _ c.in-Value.whole (sym whole-value.ensures.value ∙ c.in-Value.is) c.if-position.true)
 
 pub returns : goal.returns
