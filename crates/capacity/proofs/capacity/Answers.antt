@@ -12,7 +12,6 @@ use Rattle.limits.specs.Range.{both, between}
 use Rattle.capacity.specs.Capacity.{capacity_of}
 use Rattle.capacity.proofs.Table.{at}
 use Rattle.limits.proofs.Laws.{on, off}
-use borrow.Author.Rules.{rules}
 use Rattle.capacity.proofs.capacity.Goals as goal
 
 table : List ℕ

@@ -1,7 +1,6 @@
 -- `field::byte` meets its contract: a field of one byte is the byte, or 0 past the end.
 -- Assumes nothing.
 use mathlib.Core.Path.{sym}
-use borrow.Author.Rules.{rules}
 use Rattle.field.proofs.Laws.{field-one, field_past}
 use Rattle.field.proofs.byte.Goals as goal
 

@@ -4,7 +4,6 @@ use Prim.Native.Nat.{◌+◌}
 use mathlib.Core.Path.{sym}
 use native.Mathlib.Omega.{arith}
 use Rattle.field.proofs.Laws.{field-one, field-four, field_past}
-use borrow.Author.Rules.{rules}
 use Rattle.field.proofs.long.Goals as goal
 
 pub returns-then-at-buffer : goal.returns-then-at-buffer

@@ -2,7 +2,6 @@
 -- Assumes nothing.
 use native.Mathlib.Omega.{arith}
 use Rattle.field.proofs.Laws.{field-four}
-use borrow.Author.Rules.{rules}
 use Rattle.field.proofs.long_in.Goals as goal
 
 pub returns : goal.returns

@@ -3,7 +3,6 @@
 use mathlib.Core.Path.{sym}
 use native.Mathlib.Omega.{arith}
 use Rattle.field.proofs.Laws.{field-split, field_past}
-use borrow.Author.Rules.{rules}
 use Rattle.field.proofs.quad.Goals as goal
 
 pub returns-then-buffer-at-ge8 : goal.returns-then-buffer-at-ge8

@@ -1,7 +1,6 @@
 -- `field::signed_of` meets its contract. From the half on, the complement of the complement has the bits again.
 -- Assumes nothing.
 use native.Mathlib.Omega.{arith}
-use borrow.Author.Rules.{rules}
 use mir.Syntax.{w16}
 use Rattle.field.proofs.Laws.{complement}
 use Rattle.field.proofs.signed_of.Goals as goal

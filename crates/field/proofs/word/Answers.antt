@@ -4,7 +4,6 @@ use Prim.Native.Nat.{◌+◌}
 use mathlib.Core.Path.{sym}
 use native.Mathlib.Omega.{arith}
 use Rattle.field.proofs.Laws.{field-two, field-more, field_past}
-use borrow.Author.Rules.{rules}
 use Rattle.field.proofs.word.Goals as goal
 
 pub returns-then-buffer-at-ge2 : goal.returns-then-buffer-at-ge2

@@ -1,7 +1,6 @@
 -- `integer::signed_long_of` meets its contract. From the half on, the complement of the complement has the bits again.
 -- Assumes nothing.
 use native.Mathlib.Omega.{arith}
-use borrow.Author.Rules.{rules}
 use mir.Syntax.{w32}
 use Rattle.field.proofs.Laws.{complement}
 use Rattle.integer.proofs.signed_long_of.Goals as goal

@@ -1,6 +1,6 @@
 -- `measure::first` meets its contract: a first reading is one with no reading before it.
 -- Assumes nothing.
-use Rattle.std.proofs.Common.{◌≡◌, sym, ◌∙◌, rules}
+use Rattle.std.proofs.Common.{◌≡◌, sym, ◌∙◌}
 use Rattle.measure.specs.declared.Measured.{Measured}
 use Rattle.measure.specs.Filter.{after_of}
 use Rattle.measure.proofs.Laws.{first-after}

@@ -1,6 +1,6 @@
 -- `measure::round` meets its contract: by the sign of y, where it is in range, and 0 elsewhere, as `nearest` has it.
 -- Assumes nothing.
-use Rattle.std.proofs.Common.{◌≡◌, true, ℤ, pos, ◌-ℤ◌, neg_ℤ, sym, ap, ◌∙◌, w16, to_z, of_z, rules}
+use Rattle.std.proofs.Common.{◌≡◌, true, ℤ, pos, ◌-ℤ◌, neg_ℤ, sym, ap, ◌∙◌, w16, to_z, of_z}
 use lib.IntN.{+ℤ_idl}
 use lib.Ieee.{Float, of_bits}
 use mir.ValLaws.{to_z-of_z}

@@ -5,7 +5,6 @@ use borrow.Author.Tests.{le-leb, lt-leb}
 use Rattle.setting.proofs.Laws.{right, wrong}
 use Rattle.setting.specs.Found.{numbers_of}
 use Rattle.setting.specs.Setting.{settings_found, settings_in}
-use borrow.Author.Rules.{rules}
 use Rattle.setting.proofs.check_settings_in.Goals as goal
 
 pub returns-then-bank-lt45 : goal.returns-then-bank-lt45

@@ -1,11 +1,11 @@
 -- `stored::copy` meets its contract. The invariant: the front is copied, and nothing else.
 -- Assumes nothing.
-use Prim.Native.Nat.{ℕ, ◌-◌, ◌≤◌}
-use mathlib.Core.Path.{◌≡◌, refl, ap, ◌∙◌}
+use Prim.Native.Nat.{ℕ, ◌≤◌}
+use mathlib.Core.Path.{refl, ap, ◌∙◌}
 use mathlib.Core.List.{List, ◌++◌, append-nil}
 use native.Mathlib.Omega.{arith}
 use borrow.Author.Tests.{eq-eqb, ne_eqb}
-use lib.ListN.{length, set, drop, take, get_or, length-set, drop_of_length-le}
+use lib.ListN.{length, set, take, get_or, length-set, drop_of_length-le}
 use lib.Seq.{take_all}
 use Rattle.stored.proofs.Turn.{copy-turn}
 use Rattle.stored.proofs.copy.Goals as goal

@@ -1,13 +1,9 @@
 -- `stored::copy` meets its contract. The invariant: the front is copied, and nothing else.
 -- Assumes nothing.
-use Prim.Native.Nat.{ℕ, ◌-◌, ◌≤◌}
-use mathlib.Core.Path.{◌≡◌, refl, ap, ◌∙◌}
-use mathlib.Core.List.{List, ◌++◌, append-nil}
-use native.Mathlib.Omega.{arith}
-use borrow.Author.Tests.{eq-eqb, ne_eqb}
-use lib.ListN.{length, set, drop, take, get_or, length-set, drop_of_length-le}
-use lib.Seq.{take_all}
-use Rattle.stored.proofs.Turn.{copy-turn}
+use Prim.Native.Nat.{◌-◌, ◌≤◌}
+use mathlib.Core.Path.{◌≡◌}
+use mathlib.Core.List.{◌++◌}
+use lib.ListN.{length, drop, take}
 use Rattle.stored.proofs.copy.Given as goal
 
 abbrev pub invariant-loop-i : goal.invariant-loop-i

@@ -1,13 +1,10 @@
 -- `stored::has_room` meets its contract. The invariant: all the widths fit if the rest of them fits what is left.
 -- Assumes nothing.
-use mathlib.Core.Path.{◌≡◌, refl, sym, ◌∙◌}
-use native.Mathlib.Omega.{arith}
+use mathlib.Core.Path.{◌≡◌}
 use Prim.Native.Nat.{◌≤◌, ◌-◌}
 use lib.Dec.{leb}
 use lib.ListN.{length, drop}
-use borrow.Author.Tests.{lt-leb, le-leb}
 use Rattle.field.specs.Row.{total}
-use Rattle.field.proofs.Rows.{total-turn, total-end, fits-turn}
 use Rattle.stored.proofs.has_room.Given as goal
 
 abbrev pub invariant-loop-i : goal.invariant-loop-i

@@ -1,12 +1,12 @@
 -- `stored::put_all` meets its contract. The invariant: what is left to store, stored, gives what the contract says.
 -- Assumes nothing.
-use Prim.Native.Nat.{ℕ, ◌≤◌, ◌-◌, ◌+◌}
+use Prim.Native.Nat.{ℕ}
 use mathlib.Core.Path.{◌≡◌, refl, sym, ap, ◌∙◌}
 use mathlib.Core.List.{List, []}
 use native.Mathlib.Omega.{arith}
-use lib.ListN.{length, drop, drop_of_length-le}
+use lib.ListN.{drop, drop_of_length-le}
 use lib.Seq.{sets}
-use Rattle.field.specs.Row.{row, total}
+use Rattle.field.specs.Row.{row}
 use Rattle.field.proofs.Rows.{row-turn, total-turn}
 use Rattle.stored.proofs.put_all.Goals as goal
 

@@ -5,9 +5,8 @@ use native.Mathlib.Omega.{arith}
 use Prim.Native.Nat.{◌-◌}
 use lib.ListN.{length}
 use Rattle.field.specs.Row.{total}
-use borrow.Author.Tests.{not-true, not-false, leb-true, leb-false}
+use borrow.Author.Tests.{leb-true, leb-false}
 use Rattle.field.proofs.Rows.{stored_row_lem, row-few, row-past}
-use borrow.Author.Rules.{rules}
 use Rattle.stored.proofs.put_row.Goals as goal
 
 pub returns-then-numbers-widths : goal.returns-then-numbers-widths

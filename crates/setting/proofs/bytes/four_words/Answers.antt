@@ -6,7 +6,6 @@ use mathlib.Core.List.{[], ◌∷◌}
 use native.Mathlib.Omega.{arith}
 use Rattle.field.specs.Tab.{tab}
 use Rattle.field.proofs.Laws.{field-joined}
-use borrow.Author.Rules.{rules}
 use Rattle.setting.proofs.bytes.four_words.Goals as goal
 
 pub returns : goal.returns

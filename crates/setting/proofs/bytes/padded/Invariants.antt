@@ -1,13 +1,8 @@
 -- `setting::bytes::padded` meets its contract. The invariant: the bytes passed are there.
 -- Assumes nothing.
 use Prim.Native.Nat.{ℕ, ◌-◌, ◌≤◌, ◌<◌}
-use mathlib.Core.Path.{◌≡◌, refl, ◌∙◌}
-use native.Mathlib.Omega.{arith}
-use borrow.Author.Rules.{rules}
-use borrow.Author.Count.{below_more}
-use lib.ListN.{length, get_or, length-set}
-use lib.Seq.{get_or-set_same, get_or-set_other}
-use Rattle.field.proofs.Laws.{field-one}
+use mathlib.Core.Path.{◌≡◌}
+use lib.ListN.{length, get_or}
 use Rattle.setting.proofs.bytes.padded.Given as goal
 
 abbrev pub invariant-loop-i : goal.invariant-loop-i

@@ -3,7 +3,6 @@
 use mathlib.Core.Path.{sym, ◌∙◌}
 use Rattle.setting.proofs.Laws.{ends, goes}
 use Rattle.setting.specs.Setting.{settings_found}
-use borrow.Author.Rules.{rules}
 use Rattle.setting.proofs.judging.check.Goals as goal
 use borrow.Enum.Refused.{opened}
 

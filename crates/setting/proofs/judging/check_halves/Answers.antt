@@ -1,12 +1,9 @@
 -- `setting::judging::check_halves` meets its contract. The invariant: the pairs are found to be what the rest of them is found to be.
 -- Assumes nothing.
-use mathlib.Core.Path.{◌≡◌, refl, sym, ◌∙◌}
-use Prim.Native.Nat.{◌+◌, ◌*◌, ◌-◌, ◌≤◌}
+use mathlib.Core.Path.{refl, sym, ◌∙◌}
 use native.Mathlib.Omega.{arith}
 use borrow.Author.Tests.{le-leb, lt-leb}
-use lib.ListN.{length}
 use Rattle.setting.proofs.Laws.{right, wrong}
-use Rattle.setting.specs.Setting.{halves_found}
 use Rattle.setting.proofs.Halves.{rest_halves, halves-more, halves-end}
 use Rattle.setting.proofs.judging.check_halves.Goals as goal
 

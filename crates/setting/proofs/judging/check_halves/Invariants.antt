@@ -1,13 +1,10 @@
 -- `setting::judging::check_halves` meets its contract. The invariant: the pairs are found to be what the rest of them is found to be.
 -- Assumes nothing.
-use mathlib.Core.Path.{◌≡◌, refl, sym, ◌∙◌}
+use mathlib.Core.Path.{◌≡◌}
 use Prim.Native.Nat.{◌+◌, ◌*◌, ◌-◌, ◌≤◌}
-use native.Mathlib.Omega.{arith}
-use borrow.Author.Tests.{le-leb, lt-leb}
 use lib.ListN.{length}
-use Rattle.setting.proofs.Laws.{right, wrong}
 use Rattle.setting.specs.Setting.{halves_found}
-use Rattle.setting.proofs.Halves.{rest_halves, halves-more, halves-end}
+use Rattle.setting.proofs.Halves.{rest_halves}
 use Rattle.setting.proofs.judging.check_halves.Given as goal
 
 abbrev pub invariant-loop-j : goal.invariant-loop-j

@@ -3,7 +3,6 @@
 use mathlib.Core.Path.{sym}
 use mir.Facts.{to_z-of_z}
 use Rattle.setting.proofs.Laws.{both-and}
-use borrow.Author.Rules.{rules}
 use Rattle.setting.proofs.range.is_above.Goals as goal
 
 pub returns : goal.returns

@@ -2,7 +2,6 @@
 -- Assumes nothing.
 use mathlib.Core.Path.{◌∙◌}
 use Rattle.setting.proofs.Padded.{settings-padded}
-use borrow.Author.Rules.{rules}
 use Rattle.setting.proofs.reading.read_settings.Goals as goal
 
 pub returns : goal.returns

@@ -9,7 +9,6 @@ use Rattle.field.specs.Field.{field, signed_field}
 use Rattle.field.proofs.Laws.{field-one, field-two}
 use Rattle.setting.proofs.Laws.{bits}
 use Rattle.setting.specs.Setting.{settings_at}
-use borrow.Author.Rules.{rules}
 use Rattle.setting.proofs.reading.settings_in.Goals as goal
 
 pub returns : goal.returns
