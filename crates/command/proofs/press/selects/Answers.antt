@@ -8,15 +8,14 @@ use denote.Enum.Declared.{tag_of}
 use types.Run.{OneOf}
 use mir.Syntax.{w32}
 use mir.Facts.{to_z-of_z, to_z_pos}
-use borrow.Author.Rules.{rules}
 use Rattle.setting.specs.declared.Settings.{Settings}
 use Rattle.position.specs.declared.Command.{Command}
 use Rattle.position.specs.Tests.{within}
 use Rattle.position.specs.Command.{selects_of}
 use Rattle.position.specs.contracts.Command.{the_type as command-type}
 use Rattle.position.proofs.Tests.{both-and}
-use Rattle.command.proofs.press.selects.Statement.{statement}
-use Rattle.command.proofs.press.selects.Tie as tie
+use Rattle.command.proofs.press.selects.Goals as goal
+use borrow.Enum.Refused.{opened}
 
 -- only a select can meet 26
 no-select : (settings : Settings) (command : Command) → OneOf (1 ∷ 2 ∷ 3 ∷ 4 ∷ 5 ∷ 6 ∷ 7 ∷ []) (tag_of command-type command)
@@ -35,18 +34,14 @@ no-select settings Command.Back h = refl
 no-select settings Command.Plus h = refl
 no-select settings Command.Minus h = refl
 
-returns : tie.Need-returns
+pub returns-in-Select : goal.returns-in-Select
 unfolding selects_of within
-returns c =
-    let start = c.before.before.before.before in
+returns-in-Select c =
     rw (
-      c.before.before.pressed.given.1,
-      to_z-of_z {w = w32} (record { sfits = c.before.known-told.given.0.1 }),
-      to_z_pos w32 {n = start.args.settings.patterns} (omega arith),
+      c.in-Select.is,
+      to_z-of_z {w = w32} (record { sfits = c.in-Select.known_told-1-own.given.0.1 }),
+      to_z_pos w32 {n = c.args.settings.patterns} (omega arith),
     ) (simp both-and refl)
 
-returns-2 : tie.Need-returns-2
-returns-2 c = let start = c.before in sym (no-select start.args.settings start.args.pressed c.match.keys2)
-
-pub selects-spec : {M : Type 1} → statement M
-selects-spec = tie.close (tie.spec (λ c. search rules) (λ c. search rules) returns returns-2)
+pub returns : goal.returns
+returns c = sym (no-select c.args.settings c.args.pressed (opened c.in_default.in_default-own.keys2))
