@@ -14,12 +14,20 @@ use Rattle.bank.specs.View.{patterns_of}
 use Rattle.setting.specs.Found.{is_accepted}
 use Rattle.bank.specs.Check.{found_in}
 use Rattle.setting.specs.declared.Checked.{Checked}
-use Rattle.setting.specs.declared.Checked.TheVariants.{Accepted}
+use Rattle.setting.specs.declared.Checked.TheVariants.{Accepted, Short, Setting, Pair, Body}
 use Rattle.setting.proofs.Laws.{unless-accepted, unless-refused}
 use Rattle.arrays.specs.declared.Bank.{Bank}
 use Rattle.arrays.specs.declared.Written.TheVariants.{Length, Refused, Full}
 use Rattle.arrays.specs.Read.{laid_out, refused_as, read_as, read_of}
 use Rattle.arrays.specs.Write.{After, after, write_as}
+
+-- what is not Accepted is refused
+pub unaccepted : (found : Checked) → (found ≡ Accepted → ⊥) → is_accepted found ≡ false
+unaccepted Accepted h = absurd (h refl)
+unaccepted Short h = refl
+unaccepted (Setting o) h = refl
+unaccepted (Pair i) h = refl
+unaccepted (Body p k) h = refl
 
 -- ---- reading
 

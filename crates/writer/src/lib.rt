@@ -1,4 +1,6 @@
 // A bank written from arrays.
+#![tactic(auto)]
+
 ghost use Rattle.std.specs.Prelude.{◌≡◌};
 ghost use Rattle.arrays.specs.Write.{after, write_of, ReadsBack, rewrite_of};
 

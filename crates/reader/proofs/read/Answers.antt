@@ -3,30 +3,25 @@
 use mathlib.Core.Path.{sym, ap, ◌∙◌}
 use Rattle.setting.specs.Setting.{settings_at}
 use Rattle.setting.specs.declared.Settings.{Settings}
-use Rattle.setting.proofs.Laws.{numbers-tell, accepted, is-refused}
+use Rattle.setting.proofs.Laws.{numbers-tell}
 use Rattle.arrays.specs.Read.{given}
-use Rattle.arrays.proofs.Answers.{read-refused, read-accepted}
+use Rattle.arrays.proofs.Answers.{unaccepted, read-refused, read-accepted}
 use Rattle.reader.proofs.read.Goals as goal
-use borrow.Enum.Refused.{opened}
 
 pub returns-in_default : goal.returns-in_default
 returns-in_default c =
     let bank = c.args.bank.now in
     let check = c.check-found in
-    ap given (c.refused.ensures ∙ read-refused bank (numbers-tell _ _ c.check-found.ensures) (is-refused check.result (opened c.in_default.in_default-own.keys2)))
+    ap given (c.refused.ensures ∙ read-refused bank (numbers-tell _ _ c.check-found.ensures) (unaccepted check.result c.in_default.not-Accepted))
 
 pub patterns-patterns-requires : goal.patterns-patterns-requires
 unfolding settings_at
-patterns-patterns-requires c =
-    let check = c.check-found in
-    let ok = accepted check.result c.in-Accepted.in-Accepted-own.keys1 in
-    record { ok = sym (numbers-tell _ _ c.check-found.ensures) ∙ ok; count = ap (λ (settings : Settings). settings.patterns) c.read_settings-settings.ensures }
+patterns-patterns-requires c = record { ok = sym (numbers-tell _ _ c.check-found.ensures) ∙ c.in-Accepted.is; count = ap (λ (settings : Settings). settings.patterns) c.read_settings-settings.ensures }
 
 pub returns : goal.returns
 returns c =
     let bank = c.args.bank.now in
     let check = c.check-found in
-    let ok = accepted check.result c.in-Accepted.in-Accepted-own.keys1 in
     ap given
     ((λ i. record { found = check.result; settings = c.read_settings-settings.ensures i; patterns = c.patterns-patterns.ensures i })
-    ∙ read-accepted bank (numbers-tell _ _ c.check-found.ensures) ok)
+    ∙ read-accepted bank (numbers-tell _ _ c.check-found.ensures) c.in-Accepted.is)
