@@ -1,4 +1,6 @@
 // A list of events as bytes: five bytes each, a kind, then the value as a signed 32-bit number, low byte first.
+#![tactic(auto)]
+
 ghost use Rattle.std.specs.Prelude.{◌≡◌};
 ghost use Rattle.plain.specs.Listed.{event_of_kind, asked_at, formed};
 

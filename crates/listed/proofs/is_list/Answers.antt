@@ -1,0 +1,43 @@
+-- `listed::is_list` meets its contract. The invariant: an event begins here, or the list ends, and the bytes are a list if all that is asked for from
+-- here on is known.
+-- Assumes nothing.
+use Prim.Native.Nat.{◌-◌}
+use mathlib.Core.Path.{◌≡◌, sym, ◌∙◌}
+use mathlib.Core.List.{map}
+use native.Mathlib.Omega.{arith}
+use lib.ListN.{length}
+use Rattle.position.specs.Tests.{all}
+use Rattle.plain.specs.Listed.{is_of, formed}
+use Rattle.plain.proofs.Listed.{asked_from, Begins, begins-first, begins-more, begins-next, formed-first, not-fives, known_next, unknown-next, known-end}
+use borrow.Author.Rules.{rules}
+use Rattle.listed.proofs.is_list.Goals as goal
+
+pub returns-then-bytes-ne0 : goal.returns-then-bytes-ne0
+returns-then-bytes-ne0 c = sym (not-fives c.args.bytes.now c.if-bytes-ne0.true)
+
+pub loop-at-init : goal.loop-at-init
+loop-at-init c =
+    let bytes = c.args.bytes.now in
+    (begins-first bytes c.if-bytes-ne0.false, formed-first bytes c.if-bytes-ne0.false)
+
+pub returns-then-byte-gt14 : goal.returns-then-byte-gt14
+returns-then-byte-gt14 c =
+    let l = c.loop-at in
+    let more = begins-more _ l.at l.invariant.0 c.loop-at-test.true in
+    sym (unknown-next _ l.at more (rw (← c.byte.ensures) c.if-byte-gt14.true)) ∙ l.invariant.1
+
+pub overflow_add-at : goal.overflow_add-at
+overflow_add-at c =
+    let l = c.loop-at in
+    omega (arith, begins-more _ l.at l.invariant.0 c.loop-at-test.true)
+
+pub loop-at-preserved : goal.loop-at-preserved
+loop-at-preserved c =
+    let l = c.loop-at in
+    let more = begins-more _ l.at l.invariant.0 c.loop-at-test.true in (
+      begins-next _ l.at l.invariant.0 c.loop-at-test.true,
+      known_next _ l.at more (rw (← c.byte.ensures) c.if-byte-gt14.false) ∙ l.invariant.1,
+    )
+
+pub returns : goal.returns
+returns c = sym (known-end _ _ c.loop-at-test.false) ∙ c.loop-at.invariant.1
