@@ -1,8 +1,14 @@
 // Writes the bank of the document's last example, checks it, and compares it with bank.bin.
+#![tactic(auto)]
+
+ghost use Rattle.std.specs.Prelude.{◌≤◌, length};
+
 use arrays::{Patterns, Written};
 use bank::Step;
-use libc::STDOUT_FILENO;
 use setting::{Checked, Settings};
+use std::io::Read;
+use std::rt::Files;
+use std::{fs, io};
 
 fn example_settings() -> Settings {
     Settings {
@@ -49,47 +55,46 @@ fn example_patterns() -> Patterns {
     }
 }
 
-fn show(x: u64) {
-    io::print_decimal(STDOUT_FILENO, x);
-    io::write_all(STDOUT_FILENO, b"\n");
+fn show<R: Print>(rt: &R, x: u64) -> io::Result<()> {
+    println!(rt; "{x}")
 }
 
 // The numbers of what a check finds, one to a line.
-fn show_checked(found: Checked) {
+fn show_checked<R: Print>(rt: &R, found: Checked) -> io::Result<()> {
     match found {
-        Checked::Accepted => show(0),
-        Checked::Short => show(11),
+        Checked::Accepted => show(rt, 0),
+        Checked::Short => show(rt, 11),
         Checked::Setting(offset) => {
-            show(12);
-            show(offset as u64)
+            show(rt, 12)?;
+            show(rt, offset as u64)
         }
         Checked::Pair(pair) => {
-            show(13);
-            show(pair as u64)
+            show(rt, 13)?;
+            show(rt, pair as u64)
         }
         Checked::Body(pattern, step) => {
-            show(14);
-            show(pattern as u64);
-            show(step as u64)
+            show(rt, 14)?;
+            show(rt, pattern as u64)?;
+            show(rt, step as u64)
         }
     }
 }
 
 // The numbers of what the writer gives, and the length of the bank that it wrote.
-fn show_written(written: Written) -> usize {
+fn show_written<R: Print>(rt: &R, written: Written) -> io::Result<usize> {
     match written {
         Written::Length(size) => {
-            show(0);
-            show(size as u64);
-            size as usize
+            show(rt, 0)?;
+            show(rt, size as u64)?;
+            Ok(size as usize)
         }
         Written::Refused(found) => {
-            show_checked(found);
-            0
+            show_checked(rt, found)?;
+            Ok(0)
         }
         Written::Full => {
-            show(15);
-            0
+            show(rt, 15)?;
+            Ok(0)
         }
     }
 }
@@ -109,42 +114,52 @@ fn difference(written: &[u8], stored: &[u8]) -> usize {
     i
 }
 
-fn compare(written: &[u8], stored: &[u8]) {
+fn compare<R: Print>(rt: &R, written: &[u8], stored: &[u8]) -> io::Result<()> {
     let at = difference(written, stored);
     if at < written.len() {
-        show(at as u64);
-        return;
+        return show(rt, at as u64);
     }
     if at < stored.len() {
-        show(at as u64);
-        return;
+        return show(rt, at as u64);
     }
-    io::write_all(STDOUT_FILENO, b"same\n");
+    println!(rt; "same")
+}
+
+// A file is read to its end, until the buffer is full or a read fails: how many of the buffer's bytes are the file's.
+fn read_full<F: Read>(file: &mut F, buffer: &mut [u8]) -> usize
+    ensures { result ≤ length buffer.new }
+{
+    let mut size: usize = 0;
+    while size < buffer.len() {
+        match file.read(&mut buffer[size..]) {
+            Err(_) | Ok(0) => break,
+            Ok(count) => size += count,
+        }
+    }
+    size
 }
 
 // The bank at the front of a buffer is checked, and compared with the bank that is stored in a file.
-fn judge(buffer: [u8; 1011], size: usize) {
+fn judge<R: Files + Print + Eprint>(rt: &R, buffer: [u8; 1011], size: usize) -> io::Result<()> {
     if 1011 < size {
-        return;
+        return Ok(());
     }
-    show_checked(bank::check(&buffer[..size]));
-    let path = b"bank.bin";
-    let file = os::open_read(path);
-    if file < 0 {
-        os::fail(path);
-        return;
+    show_checked(rt, bank::check(&buffer[..size]))?;
+    match fs::open(rt, "bank.bin") {
+        Err(error) => eprintln!(rt; "bank.bin: {error}"),
+        Ok(mut file) => {
+            let mut stored = [0u8; 4096];
+            let count = read_full(&mut file, &mut stored);
+            compare(rt, &buffer[..size], &stored[..count])
+        }
     }
-    let mut stored = io::buffer();
-    let count = io::read_full(file, &mut stored);
-    libc::close(file);
-    if 4096 < count {
-        return;
-    }
-    compare(&buffer[..size], &stored[..count]);
 }
 
-fn main() {
+fn main(rt: HostRuntime) -> io::Result<()> {
     let mut buffer = [0u8; 1011];
-    let size = show_written(writer::write(example_settings(), example_patterns(), &mut buffer));
-    judge(buffer, size);
+    let size = show_written(
+        &rt,
+        writer::write(example_settings(), example_patterns(), &mut buffer),
+    )?;
+    judge(&rt, buffer, size)
 }

@@ -1,6 +1,10 @@
 // Runs the bit exact vectors of standard input through `measure`, and writes how many come out as
 // they stand there, before the first that does not. vectors.py says what a line of 57 bytes holds.
+#![tactic(auto)]
+
 use measure::{Measured, Reading, Whole};
+use std::io;
+use std::io::Read;
 
 // The value of a hexadecimal digit: 0 to 9, a to f.
 fn digit(c: u8) -> u64 {
@@ -81,25 +85,25 @@ fn agrees(line: &[u8; 57]) -> bool {
 }
 
 // Whether there is a next line, and it agrees.
-fn next_agrees() -> bool {
+fn next_agrees<I: Read>(reader: &mut I) -> bool {
     let mut line = [0u8; 57];
-    if io::read_full(0, &mut line) < 57 {
+    if reader.read_exact(&mut line).is_err() {
         return false;
     }
     agrees(&line)
 }
 
 // How many lines agree, before the first that does not or the end; at most 1000.
-fn agreeing() -> usize {
+fn agreeing<I: Read>(reader: &mut I) -> usize {
     for i in 0..1000 {
-        if !next_agrees() {
+        if !next_agrees(reader) {
             return i;
         }
     }
     1000
 }
 
-fn main() {
-    io::print_decimal(1, agreeing() as u64);
-    io::write_all(1, b" vectors ok\n");
+fn main(rt: HostRuntime) -> io::Result<()> {
+    let agreed = agreeing(&mut rt.reader());
+    println!(rt; "{agreed} vectors ok")
 }
