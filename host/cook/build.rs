@@ -1,4 +1,4 @@
-//! Links libhost.a from COOK_LIB_DIR, or from the repository's build directory.
+//! Links libhost.a from COOK_LIB_DIR, or from where `rt lib` leaves it.
 
 use std::env;
 use std::path::PathBuf;
@@ -8,7 +8,7 @@ fn library_directory() -> PathBuf {
         return PathBuf::from(directory);
     }
     let here = env::var_os("CARGO_MANIFEST_DIR").expect("cargo sets CARGO_MANIFEST_DIR");
-    PathBuf::from(here).join("../../target/staticlib")
+    PathBuf::from(here).join("../../crates/host/out")
 }
 
 fn main() {
@@ -19,7 +19,7 @@ fn main() {
     println!("cargo:rerun-if-changed={}", library.display());
     if !library.is_file() {
         eprintln!(
-            "{} is missing: run `rt staticlib host` or set COOK_LIB_DIR",
+            "{} is missing: run `rt lib` in crates/host or set COOK_LIB_DIR",
             library.display()
         );
         std::process::exit(1);

@@ -4,7 +4,7 @@
  * documents 01 and 02 and exits with a status other than 0 if anything differs.
  *
  *   gcc -std=c99 -Wall -Wextra -Werror -I host host/examples/host.c \
- *       target/staticlib/libhost.a -o example_host
+ *       crates/host/out/libhost.a -o example_host
  */
 #include <stdio.h>
 #include <stdlib.h>
