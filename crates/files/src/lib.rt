@@ -16,7 +16,7 @@ pub struct Loaded {
 }
 
 // A line on standard error: what could not be read or written, and why.
-pub fn fail<R: Eprint>(rt: &R, what: &str, error: Error) {
+fn fail<R: Eprint>(rt: &R, what: &str, error: Error) {
     let _ = eprintln!(rt; "{what}: {error}");
 }
 

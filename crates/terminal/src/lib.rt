@@ -50,7 +50,7 @@ fn take_turn<R: Print + Eprint, I: Read>(
     let count = match reader.read(&mut input) {
         Ok(count) => count,
         Err(error) => {
-            files::fail(rt, "standard input", error);
+            let _ = eprintln!(rt; "standard input: {error}");
             return Turn {
                 between,
                 goes_on: false,
