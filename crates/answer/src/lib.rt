@@ -1,4 +1,6 @@
 // Answers as numbers: the document's number of an answer, and the values of a bank's refusal.
+#![tactic(auto)]
+
 ghost use Rattle.std.specs.Prelude.{◌≡◌, pos, get_or};
 ghost use Rattle.setting.specs.Found.{numbers_of as bank_numbers};
 ghost use Rattle.plain.specs.Answer.{number_of, numbers_of};
