@@ -1,4 +1,6 @@
 // Answers as numbers: the document's number of an answer, and the values of a bank's refusal.
+#![tactic(auto)]
+
 ghost use Rattle.std.specs.Prelude.{◌≡◌, pos, get_or};
 ghost use Rattle.setting.specs.Found.{numbers_of as bank_numbers};
 ghost use Rattle.plain.specs.Answer.{number_of, numbers_of};
@@ -29,6 +31,7 @@ fn alone(number: u8) -> Numbers
 }
 
 // What the check of a bank finds.
+#[tactic(auto, unfolding(setting::specs::Found::numbers_of, crate::specs::Numbers::number_and_values))]
 pub fn of_checked(found: Checked) -> Numbers
     ensures { result ≡ number_and_values (bank_numbers found) }
 {
@@ -57,6 +60,7 @@ pub fn of_checked(found: Checked) -> Numbers
 }
 
 // The number of a refusal.
+#[tactic(auto, unfolding(plain::specs::Answer::number_of))]
 fn of_refusal(refusal: Refusal) -> u8
     ensures { result ≡ number_of refusal }
 {

@@ -11,6 +11,7 @@ use plain::{Asked, Event};
 use position::Command;
 
 // A key by itself.
+#[tactic(auto, unfolding(crate::specs::Line::key_of))]
 pub fn alone(c: u8) -> Asked
     ensures { result ≡ key_of c }
 {
@@ -38,6 +39,7 @@ fn is_only(c: u8, cs: &[u8]) -> bool
 }
 
 // N: the pattern asked for.
+#[tactic(auto, unfolding(crate::specs::Line::valued, crate::specs::Line::select))]
 fn select(cs: &[u8]) -> Asked
     ensures { result ≡ valued_of 78 cs.now }
 {
@@ -58,6 +60,7 @@ fn event(reading: Reading, returns: bool) -> Event
 }
 
 // T and R: H is over, L under.
+#[tactic(auto, using(crate::proofs::Laws::number))]
 fn reading(cs: &[u8], returns: bool) -> Asked
     ensures { result ≡ cond returns (return_of cs.now) (tick_of cs.now) }
 {
@@ -74,6 +77,7 @@ fn reading(cs: &[u8], returns: bool) -> Asked
 }
 
 // A key with a value.
+#[tactic(auto, unfolding(crate::specs::Line::valued))]
 pub fn valued(c: u8, cs: &[u8]) -> Asked
     ensures { result ≡ valued_of c cs.now }
 {

@@ -1,4 +1,6 @@
 // One line of the program `sheet`: what it asks for.
+#![tactic(auto)]
+
 ghost use Rattle.std.specs.Prelude.{◌≡◌};
 ghost use Rattle.key.specs.Line.{asked_by};
 

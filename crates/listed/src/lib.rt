@@ -11,6 +11,7 @@ use plain::{Asked, Event};
 use position::Command;
 
 // What a kind with a value asks for.
+#[tactic(auto, unfolding(plain::specs::Listed::event_of_kind))]
 pub fn event_of(kind: u32, v: i32) -> Asked
     ensures { result ≡ event_of_kind kind v }
 {

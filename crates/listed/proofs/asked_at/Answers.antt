@@ -10,7 +10,6 @@ use mir.Val.{to_z}
 use Rattle.field.specs.Field.{field, signed_field}
 use Rattle.field.proofs.Laws.{field_past}
 use Rattle.plain.specs.Listed.{event_of_kind, asked_at}
-use borrow.Author.Rules.{rules}
 use Rattle.listed.proofs.asked_at.Goals as goal
 
 pub returns-then-bytes-at : goal.returns-then-bytes-at

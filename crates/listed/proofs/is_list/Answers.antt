@@ -1,15 +1,9 @@
 -- `listed::is_list` meets its contract. The invariant: an event begins here, or the list ends, and the bytes are a list if all that is asked for from
 -- here on is known.
 -- Assumes nothing.
-use Prim.Native.Nat.{◌-◌}
-use mathlib.Core.Path.{◌≡◌, sym, ◌∙◌}
-use mathlib.Core.List.{map}
+use mathlib.Core.Path.{sym, ◌∙◌}
 use native.Mathlib.Omega.{arith}
-use lib.ListN.{length}
-use Rattle.position.specs.Tests.{all}
-use Rattle.plain.specs.Listed.{is_of, formed}
-use Rattle.plain.proofs.Listed.{asked_from, Begins, begins-first, begins-more, begins-next, formed-first, not-fives, known_next, unknown-next, known-end}
-use borrow.Author.Rules.{rules}
+use Rattle.plain.proofs.Listed.{begins-first, begins-more, begins-next, formed-first, not-fives, known_next, unknown-next, known-end}
 use Rattle.listed.proofs.is_list.Goals as goal
 
 pub returns-then-bytes-ne0 : goal.returns-then-bytes-ne0

@@ -2,14 +2,12 @@
 -- here on is known.
 -- Assumes nothing.
 use Prim.Native.Nat.{◌-◌}
-use mathlib.Core.Path.{◌≡◌, sym, ◌∙◌}
+use mathlib.Core.Path.{◌≡◌}
 use mathlib.Core.List.{map}
-use native.Mathlib.Omega.{arith}
 use lib.ListN.{length}
 use Rattle.position.specs.Tests.{all}
 use Rattle.plain.specs.Listed.{is_of, formed}
-use Rattle.plain.proofs.Listed.{asked_from, Begins, begins-first, begins-more, begins-next, formed-first, not-fives, known_next, unknown-next, known-end}
-use borrow.Author.Rules.{rules}
+use Rattle.plain.proofs.Listed.{asked_from, Begins}
 use Rattle.listed.proofs.is_list.Given as goal
 
 abbrev pub invariant-loop-at : goal.invariant-loop-at
