@@ -1,0 +1,6 @@
+-- `effect::answers::by_parts` meets its contract. Assumes nothing.
+use borrow.Author.Rules.{rules}
+use Rattle.effect.proofs.answers.by_parts.Goals as goal
+
+pub returns : goal.returns
+returns c = rw (c.value_by_parts-measured.ensures, c.position_by_parts-position.ensures)
