@@ -15,7 +15,7 @@ use Rattle.alarm.specs.declared.Alarms.{Alarms}
 use Rattle.alarm.specs.Alarm.{standby, in_range, all_in_range, clear, all_clear, tick_alarms, all_bounded}
 use Rattle.alarm.proofs.Bounds.{each_holds, clear-bounded}
 use Rattle.alarm.proofs.Idle.{Idle, tick-idle}
-use Rattle.alarm.specs.Idle.{unset, all_unset, is_clear, all_are_clear, is_idle, all_idle}
+use Rattle.alarm.specs.Idle.{all_unset, is_clear, all_are_clear, is_idle, all_idle}
 
 pub unset-in-range : (settings : AlarmSettings) → settings ≡ all_unset → true ≡ all_in_range settings
 unfolding all_in_range in_range all both either temperature within

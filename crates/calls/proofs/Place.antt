@@ -7,7 +7,7 @@ use native.Mathlib.Nat.{mul-add, mul-one}
 use native.Mathlib.Numerals.{add-one}
 use native.Mathlib.Omega.{arith}
 use lib.ListN.{length, take, drop, get_or, set, replicate, take-append-drop, length-drop}
-use lib.Seq.{sets, sets-eq, length-sets, length-take-le, drop-drop, drop-set-lt, drop-cons, set_at, take-suc, append_snoc}
+use lib.Seq.{sets, sets-eq, length-sets, length-take-le, drop-drop, drop-set-lt}
 use Rattle.field.specs.Field.{field, digits}
 use Rattle.field.specs.Row.{row, row_at, total}
 use Rattle.field.proofs.Laws.{Bytes, length_digits, read-after, digits-field, sets-append}

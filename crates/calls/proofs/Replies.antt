@@ -23,7 +23,7 @@ use Rattle.plain.specs.Event.{State, After as Left, after as after_call, dark, r
 use Rattle.plain.specs.Listed.{events_in, formed}
 use Rattle.plain.specs.contracts.Reply.{the_type}
 use Rattle.demand.specs.Run.{AfterRun, after_run, given, run_outcome, answer_in}
-use Rattle.calls.specs.Result.{packed, result_of}
+use Rattle.calls.specs.Result.{result_of}
 use Rattle.calls.specs.Carried.{state_bytes, roomy}
 use Rattle.calls.specs.Calls.{after, list_leaves, run_over}
 use Rattle.calls.proofs.Meets.{no-list, bank-refused, is-run}

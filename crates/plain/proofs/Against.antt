@@ -11,8 +11,6 @@ use lib.IntN.{ℤ, pos}
 use lib.ListN.{take, drop, replicate}
 use Rattle.field.specs.Field.{digits}
 use Rattle.field.specs.Row.{row, total}
-use Rattle.setting.specs.declared.Checked.TheVariants.{Accepted}
-use Rattle.bank.specs.Check.{found_in}
 use Rattle.measure.specs.Filter.{after_of, first_of, whole_of, outside_of}
 use Rattle.measure.specs.declared.Reading.{Reading}
 use Rattle.measure.specs.declared.Whole.{Whole}

@@ -16,8 +16,7 @@ use Rattle.field.specs.Row.{row, row_at, total}
 use Rattle.field.proofs.Laws.{Bytes, field_below, signed-bits}
 use Rattle.field.proofs.Rows.{Held, none, held, held_all, length-row, row-append, sets_rows, sets-all, row-turn, read-row, row_read, below_row, length-row_at}
 use Rattle.position.specs.declared.Position.{Position}
-use Rattle.alarm.specs.declared.Alarms.{Alarms}
-use Rattle.alarm.specs.Part.{alarm_widths, alarms_at}
+use Rattle.alarm.specs.Part.{alarms_at}
 use Rattle.alarm.proofs.Written.{AllRanged, alarms-held, alarms_from as numbered-alarms, alarms-row, alarms-ranged}
 use Rattle.plain.specs.Record.{Part, widths_of, size_of, numbers_in, Checkpoint, position_widths, credit_widths, parts}
 use Rattle.plain.specs.Record.{record_size, credits_from, alarms_from, record_of, position_in, credits_in, alarms_in, checkpoint_in}

@@ -9,7 +9,6 @@ use borrow.Author.Tests.{eq-eqb, not-true}
 use lib.Dec.{eqb}
 use lib.ListN.{length}
 use Rattle.setting.specs.Found.{is_accepted as passes}
-use Rattle.setting.specs.declared.Checked.TheVariants.{Accepted}
 use Rattle.setting.proofs.Laws.{is-accepted}
 use Rattle.bank.specs.Check.{found_in}
 use Rattle.measure.specs.Filter.{whole_of, first_of, outside_of}
@@ -31,7 +30,7 @@ use Rattle.plain.specs.declared.Effect.{Effect}
 use Rattle.plain.specs.Record.{Checkpoint, checkpoint_in, credits_in, sized}
 use Rattle.plain.specs.Setup.{Setup, Usable, settings_in, here_in}
 use Rattle.plain.specs.Answer.{is_accepted}
-use Rattle.plain.specs.Run.{moved_to, read_first, readable_in, shown_in, credited, tick_credit, return_by}
+use Rattle.plain.specs.Run.{moved_to, readable_in, shown_in, credited, tick_credit, return_by}
 use Rattle.plain.specs.Refusals.{sound_state}
 use Rattle.plain.specs.Event.{State, fresh, dark_run, dark, After, after, checkpoint_for, record_for, applied, cut_effect, brought_back, refused, return_effect, retained_in, known_effect}
 use Rattle.plain.specs.Event.{event_effect, event_outcome, make_outcome, events_from}

@@ -1,5 +1,4 @@
 -- `alarm_part::read_alarm` meets its contract. Assumes nothing.
-use borrow.Author.Rules.{rules}
 use Rattle.alarm_part.proofs.read_alarm.Goals as goal
 
 pub returns : goal.returns

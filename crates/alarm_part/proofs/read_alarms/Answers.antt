@@ -2,7 +2,6 @@
 use Rattle.field.specs.Row.{total}
 use Rattle.alarm.specs.Part.{alarms_at}
 use Rattle.plain.specs.Record.{widths_of, credit_widths, alarms_in}
-use borrow.Author.Rules.{rules}
 use Rattle.alarm_part.proofs.read_alarms.Goals as goal
 
 pub returns : goal.returns

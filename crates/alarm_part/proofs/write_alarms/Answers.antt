@@ -6,7 +6,6 @@ use Rattle.field.specs.Row.{total}
 use Rattle.field.proofs.Rows.{row-past}
 use Rattle.stored.proofs.Part.{copied-row}
 use Rattle.alarm.specs.Part.{alarm_widths, alarm_numbers}
-use borrow.Author.Rules.{rules}
 use Rattle.alarm_part.proofs.write_alarms.Goals as goal
 
 pub returns-then-bytes-at : goal.returns-then-bytes-at

@@ -2,7 +2,6 @@
 -- Assumes nothing.
 use mathlib.Core.Path.{ap}
 use Rattle.setting.specs.Found.{numbers_of}
-use borrow.Author.Rules.{rules}
 use Rattle.bank.proofs.check.Goals as goal
 
 pub returns : goal.returns

@@ -1,7 +1,6 @@
 -- `bounds::are_clear` meets its contract. Assumes nothing.
 use Rattle.alarm.specs.Idle.{all_are_clear}
 use Rattle.alarm.proofs.Coded.{joined, last}
-use borrow.Author.Rules.{rules}
 use Rattle.bounds.proofs.are_clear.Goals as goal
 
 pub returns : goal.returns

@@ -2,7 +2,6 @@
 use borrow.Author.Tests.{eq-eqb, ne_eqb}
 use Rattle.alarm.specs.Idle.{is_clear}
 use Rattle.alarm.proofs.Coded.{bounded-standby, bounded-plain}
-use borrow.Author.Rules.{rules}
 use Rattle.bounds.proofs.is_bounded.Goals as goal
 
 pub returns-then-setting-eq1 : goal.returns-then-setting-eq1

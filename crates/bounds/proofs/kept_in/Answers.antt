@@ -1,7 +1,6 @@
 -- `bounds::kept_in` meets its contract. Assumes nothing.
 use mathlib.Core.Path.{◌∙◌}
 use Rattle.alarm.proofs.Coded.{stopped-leaves, other-leaves}
-use borrow.Author.Rules.{rules}
 use Rattle.bounds.proofs.kept_in.Goals as goal
 
 pub returns-then-mode-eq0 : goal.returns-then-mode-eq0

@@ -3,7 +3,6 @@ use mathlib.Core.Path.{sym, ◌∙◌}
 use Rattle.alarm.specs.Alarm.{all_bounded}
 use Rattle.alarm.proofs.Coded.{joined, last}
 use Rattle.alarm.proofs.Short.{clear_within}
-use borrow.Author.Rules.{rules}
 use Rattle.bounds.proofs.within_bounds.Goals as goal
 
 pub returns-then-are_clear : goal.returns-then-are_clear

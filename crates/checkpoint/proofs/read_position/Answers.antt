@@ -4,7 +4,6 @@ use mathlib.Core.Path.{◌∙◌}
 use mir.Facts.{to_z-of_z}
 use mir.Syntax.{w16}
 use Rattle.plain.specs.Record.{position_in}
-use borrow.Author.Rules.{rules}
 use Rattle.checkpoint.proofs.read_position.Goals as goal
 
 pub returns : goal.returns

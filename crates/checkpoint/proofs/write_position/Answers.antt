@@ -6,7 +6,6 @@ use Rattle.field.specs.Row.{total}
 use Rattle.field.proofs.Rows.{row-past}
 use Rattle.stored.proofs.Part.{copied-row}
 use Rattle.plain.specs.Record.{position_widths, position_numbers}
-use borrow.Author.Rules.{rules}
 use Rattle.checkpoint.proofs.write_position.Goals as goal
 
 pub returns-then-bytes-at : goal.returns-then-bytes-at

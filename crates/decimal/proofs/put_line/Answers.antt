@@ -1,17 +1,15 @@
 -- `decimal::put_line` meets its contract. The invariant: the rest of the line, stored from where it is due, gives the whole, and there is room for it.
 -- Assumes nothing.
-use Prim.Native.Nat.{ℕ, ◌+◌, ◌*◌, ◌-◌, ◌≤◌}
+use Prim.Native.Nat.{◌+◌, ◌≤◌}
 use mathlib.Core.Path.{◌≡◌, refl, sym, ap, ◌∙◌}
 use native.Mathlib.Omega.{arith}
-use borrow.Author.Rules.{rules}
-use lib.ListN.{length, drop, get_or, length-set, drop_of_length-le}
+use lib.ListN.{drop, get_or, length-set, drop_of_length-le}
 use mathlib.Core.List.{List, []}
 use lib.IntN.{ℤ, pos}
 use mir.Facts.{to_z-of_z}
 use mir.Syntax.{w64}
 use Rattle.decimal.specs.Text.{text, line_of, put, put_text}
 use Rattle.decimal.proofs.Laws.{put_is, end_is, length-text, line-turn, put-fits, put-past}
-use Rattle.decimal.proofs.put_line.Invariants.{Due}
 use Rattle.decimal.proofs.put_line.Goals as goal
 use Rattle.decimal.proofs.put_line.Goals.{After-separator}
 

@@ -1,15 +1,11 @@
 -- `decimal::put_line` meets its contract. The invariant: the rest of the line, stored from where it is due, gives the whole, and there is room for it.
 -- Assumes nothing.
 use Prim.Native.Nat.{ℕ, ◌+◌, ◌*◌, ◌-◌, ◌≤◌}
-use mathlib.Core.Path.{◌≡◌, refl, sym, ap, ◌∙◌}
-use native.Mathlib.Omega.{arith}
-use borrow.Author.Rules.{rules}
-use lib.ListN.{length, drop, get_or, length-set, drop_of_length-le}
-use mathlib.Core.List.{List, []}
-use lib.IntN.{ℤ, pos}
-use mir.Facts.{to_z-of_z}
-use Rattle.decimal.specs.Text.{text, line_of, put, put_text}
-use Rattle.decimal.proofs.Laws.{put_is, end_is, length-text, line-turn, put-fits, put-past}
+use mathlib.Core.Path.{◌≡◌}
+use lib.ListN.{length, drop}
+use mathlib.Core.List.{List}
+use lib.IntN.{ℤ}
+use Rattle.decimal.specs.Text.{line_of, put_text}
 use Rattle.decimal.proofs.put_line.Given as goal
 
 pub record Due (out₀ : List ℕ) (at : ℕ) (numbers : List ℤ) (out : List ℕ) (to i : ℕ) : Type 0 where
@@ -23,4 +19,3 @@ invariant-loop-i l = Due l.initial.out l.at l.numbers l.out l.to l.i
 
 abbrev pub decreases-loop-i : goal.decreases-loop-i
 decreases-loop-i l = length l.numbers - l.i
-

@@ -1,6 +1,5 @@
 -- `judge::all_judged` meets its contract. Assumes nothing.
 use mir.Facts.{to_z-of_z}
-use borrow.Author.Rules.{rules}
 use Rattle.judge.proofs.all_judged.Goals as goal
 
 pub returns : goal.returns

@@ -1,7 +1,6 @@
 -- `judge::idle` meets its contract. Assumes nothing.
 use Rattle.alarm.specs.Idle.{all_idle}
 use Rattle.alarm.proofs.Coded.{joined, last}
-use borrow.Author.Rules.{rules}
 use Rattle.judge.proofs.idle.Goals as goal
 
 pub returns : goal.returns

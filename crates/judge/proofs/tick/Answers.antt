@@ -5,7 +5,6 @@ use mir.Val.{SFits, to_z, of_z}
 use mir.Facts.{to_z-of_z}
 use Rattle.position.specs.Program.{set_value_of}
 use Rattle.alarm.proofs.Coded.{nothing-leaves, judged-leaves, unjudged-leaves}
-use borrow.Author.Rules.{rules}
 use Rattle.judge.proofs.tick.Goals as goal
 
 pub returns-in_default : goal.returns-in_default

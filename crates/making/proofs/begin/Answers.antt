@@ -1,7 +1,6 @@
 -- `making::begin` meets its contract. Assumes nothing.
 use Rattle.plain.specs.Event.{fresh, retained_in, make_outcome}
 use Rattle.plain.specs.Setup.{here_in}
-use borrow.Author.Rules.{rules}
 use Rattle.making.proofs.begin.Goals as goal
 
 pub returns : goal.returns

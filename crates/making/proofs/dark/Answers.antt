@@ -1,7 +1,6 @@
 -- `making::dark` meets its contract. Assumes nothing.
 use mathlib.Core.Path.{refl}
 use Rattle.plain.specs.Event.{dark}
-use borrow.Author.Rules.{rules}
 use Rattle.making.proofs.dark.Goals as goal
 
 pub returns : goal.returns

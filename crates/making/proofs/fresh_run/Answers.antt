@@ -1,7 +1,6 @@
 -- `making::fresh_run` meets its contract. Assumes nothing.
 use mathlib.Core.Path.{refl}
 use Rattle.plain.specs.Event.{dark_run}
-use borrow.Author.Rules.{rules}
 use Rattle.making.proofs.fresh_run.Goals as goal
 
 pub returns : goal.returns

@@ -9,7 +9,6 @@ use Rattle.bank.specs.Check.{found_in}
 use Rattle.plain.specs.Record.{credit_widths, widths_of, sized}
 use Rattle.plain.specs.Setup.{over}
 use Rattle.making.proofs.Rows.{make-bank, make-buffer, make-setting}
-use borrow.Author.Rules.{rules}
 use Rattle.making.proofs.make.Goals as goal
 use borrow.Enum.Refused.{opened}
 

@@ -4,7 +4,6 @@ use Prim.Native.Nat.{◌+◌}
 use native.Mathlib.Omega.{arith}
 use Rattle.field.proofs.Laws.{field-one}
 use Rattle.setting.proofs.Laws.{both-and}
-use borrow.Author.Rules.{rules}
 use Rattle.bank.proofs.body.body_right.Goals as goal
 
 pub overflow_cast-result : goal.overflow_cast-result

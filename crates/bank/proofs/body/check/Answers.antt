@@ -8,7 +8,6 @@ use Rattle.bank.specs.View.{pattern_at, patterns_of}
 use Rattle.field.specs.Tab.{tab}
 use Rattle.bank.specs.Check.{pairs_found, bodies_found, of_length, found_in}
 use Rattle.bank.proofs.Facts.{not_short, test-holds}
-use borrow.Author.Rules.{rules}
 use Rattle.bank.proofs.body.check.Goals as goal
 use borrow.Enum.Refused.{opened}
 

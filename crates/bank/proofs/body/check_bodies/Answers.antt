@@ -1,13 +1,12 @@
 -- `bank::body::check_bodies` meets its contract. The invariants: all the patterns are found to be what the rest of them is found to be; inside, what the rest
 -- of the steps, and then the rest of the patterns, are found to be. The body lies in the bank.
 -- Assumes nothing.
-use Prim.Native.Nat.{ℕ, ◌+◌, ◌*◌, ◌-◌, ◌≤◌}
+use Prim.Native.Nat.{ℕ, ◌+◌, ◌*◌, ◌≤◌}
 use mathlib.Core.Path.{◌≡◌, sym, ap, ◌∙◌}
 use mathlib.Core.Bool.{Bool}
 use mathlib.Core.List.{List}
 use borrow.Author.Tests.{not-true, not-false}
 use native.Mathlib.Omega.{arith}
-use borrow.Author.Rules.{rules}
 use lib.IntN.{ℤ}
 use lib.ListN.{length}
 use mir.Syntax.{w16}
@@ -17,10 +16,9 @@ use Rattle.field.proofs.Laws.{field_below}
 use Rattle.setting.proofs.Laws.{right, wrong, refused, passed, next, stop}
 use Rattle.bank.proofs.Walk.{rest_steps, steps-more, steps-end, rest_bodies, bodies-start, bodies-more, bodies-end, start_right, start-count}
 use Rattle.bank.proofs.Facts.{pairs-there, pairs-fit}
-use Rattle.bank.specs.View.{offset_of, length_of, steps_in, pattern_at}
-use Rattle.field.specs.Tab.{tab}
+use Rattle.bank.specs.View.{offset_of, length_of, steps_in}
 use Rattle.setting.specs.Found.{test, then}
-use Rattle.bank.specs.Check.{bodies_found, of_length, step_right}
+use Rattle.bank.specs.Check.{step_right}
 use Rattle.setting.specs.declared.Checked.{Checked}
 use Rattle.setting.specs.declared.Checked.TheVariants.{Body}
 use Rattle.bank.proofs.body.check_bodies.Invariants.{whole}

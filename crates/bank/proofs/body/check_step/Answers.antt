@@ -3,7 +3,6 @@
 use mathlib.Core.Path.{refl, ◌∙◌}
 use Rattle.setting.proofs.Laws.{within-bits, both-and}
 use Rattle.bank.specs.Check.{step_right, signals_right}
-use borrow.Author.Rules.{rules}
 use Rattle.bank.proofs.body.check_step.Goals as goal
 
 pub returns : goal.returns

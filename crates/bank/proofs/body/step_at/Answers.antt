@@ -9,7 +9,6 @@ use Rattle.field.specs.Tab.{tab}
 use Rattle.setting.proofs.Laws.{bits}
 use Rattle.bank.specs.View.{step_at}
 use Rattle.bank.proofs.Facts.{step-beyond}
-use borrow.Author.Rules.{rules}
 use Rattle.bank.proofs.body.step_at.Goals as goal
 
 pub returns-then-bytes-at : goal.returns-then-bytes-at

@@ -12,7 +12,6 @@ use Rattle.field.specs.Tab.{tab}
 use Rattle.field.proofs.Laws.{field-one, field-joined}
 use Rattle.setting.proofs.Laws.{bits}
 use Rattle.bank.specs.View.{step_at}
-use borrow.Author.Rules.{rules}
 use Rattle.bank.proofs.body.step_in.Goals as goal
 
 pub returns : goal.returns

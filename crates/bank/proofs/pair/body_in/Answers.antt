@@ -4,7 +4,6 @@ use Prim.Native.Nat.{◌+◌, ◌*◌}
 use mathlib.Core.Path.{sym, ◌∙◌}
 use Rattle.field.proofs.Laws.{field-four}
 use Rattle.bank.proofs.Walk.{pair-gives}
-use borrow.Author.Rules.{rules}
 use Rattle.bank.proofs.pair.body_in.Goals as goal
 
 pub returns : goal.returns

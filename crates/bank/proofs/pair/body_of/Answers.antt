@@ -1,7 +1,6 @@
 -- `bank::pair::body_of` meets its contract.
 -- Assumes nothing.
 use Rattle.bank.proofs.Walk.{pair-gives}
-use borrow.Author.Rules.{rules}
 use Rattle.bank.proofs.pair.body_of.Goals as goal
 
 pub returns : goal.returns

@@ -1,16 +1,9 @@
 -- `bank::pair::check_pairs` meets its contract. The invariant: all the pairs are found to be what the rest of them is found to be.
 -- Assumes nothing.
-use Prim.Native.Nat.{ℕ, ◌+◌, ◌*◌, ◌-◌, ◌≤◌}
-use mathlib.Core.Path.{◌≡◌, sym, ap, ◌∙◌}
-use native.Mathlib.Omega.{arith}
-use borrow.Author.Rules.{rules}
-use borrow.Author.Tests.{le-leb, lt-leb, eq-eqb, ne_eqb}
-use lib.ListN.{length}
-use Rattle.setting.proofs.Laws.{right, wrong, refused, passed}
-use Rattle.bank.proofs.Walk.{rest_pairs, pairs_start, pairs-more, pairs_end}
-use Rattle.capacity.specs.Capacity.{capacity_of}
-use Rattle.bank.specs.View.{offset_of, length_of}
-use Rattle.bank.specs.Check.{pair_right, pairs_found}
+use Prim.Native.Nat.{◌+◌, ◌*◌, ◌-◌, ◌≤◌}
+use mathlib.Core.Path.{◌≡◌}
+use Rattle.bank.proofs.Walk.{rest_pairs}
+use Rattle.bank.specs.Check.{pairs_found}
 use Rattle.bank.proofs.pair.check_pairs.Given as goal
 
 abbrev pub invariant-loop-i : goal.invariant-loop-i

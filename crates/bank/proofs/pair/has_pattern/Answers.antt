@@ -3,7 +3,6 @@
 use mathlib.Core.Path.{sym}
 use Rattle.setting.proofs.Laws.{both-and}
 use Rattle.limits.specs.Range.{between}
-use borrow.Author.Rules.{rules}
 use Rattle.bank.proofs.pair.has_pattern.Goals as goal
 
 pub returns : goal.returns

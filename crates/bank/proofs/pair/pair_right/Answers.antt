@@ -3,7 +3,6 @@
 use mathlib.Core.Path.{refl}
 use Rattle.setting.proofs.Laws.{both-and}
 use Rattle.bank.specs.Check.{pair_right}
-use borrow.Author.Rules.{rules}
 use Rattle.bank.proofs.pair.pair_right.Goals as goal
 
 pub returns : goal.returns

@@ -7,7 +7,6 @@ use Rattle.bank.proofs.Facts.{pattern-there, pattern-none, step-none}
 use Rattle.field.specs.Field.{field}
 use Rattle.bank.specs.View.{Pattern, step_at, steps_in, numbered, no_step, no_pattern, pattern_at, step_of, place_of}
 use Rattle.field.specs.Tab.{tab}
-use borrow.Author.Rules.{rules}
 use Rattle.bank.proofs.view.place_of.Goals as goal
 
 pub returns-then-not-has_pattern : goal.returns-then-not-has_pattern

@@ -5,7 +5,6 @@ use native.Mathlib.Omega.{arith}
 use Rattle.field.proofs.Tab.{length-tab}
 use Rattle.bank.proofs.Facts.{numbered-tab, numbered-past, numbered-none}
 use Rattle.bank.specs.View.{no_step, step_at, steps_in}
-use borrow.Author.Rules.{rules}
 use Rattle.bank.proofs.view.step_numbered.Goals as goal
 
 pub returns-then-k-lt1 : goal.returns-then-k-lt1

@@ -1,7 +1,6 @@
 -- `bounds::range::are_unset` meets its contract. Assumes nothing.
 use mathlib.Core.Bool.{false≢true}
 use borrow.Author.Tests.{not-false}
-use borrow.Author.Rules.{rules}
 use Rattle.bounds.proofs.range.are_unset.Goals as goal
 
 pub returns-then-not-is_unset : goal.returns-then-not-is_unset

@@ -2,7 +2,6 @@
 use Rattle.alarm.specs.Alarm.{all_in_range}
 use Rattle.alarm.proofs.Coded.{joined, last}
 use Rattle.alarm.proofs.Short.{unset-in-range}
-use borrow.Author.Rules.{rules}
 use Rattle.bounds.proofs.range.in_range.Goals as goal
 
 pub returns-then-are_unset : goal.returns-then-are_unset

@@ -3,7 +3,6 @@ use mir.Syntax.{w16}
 use mir.Val.{SFits}
 use mir.Facts.{to_z-of_z}
 use Rattle.alarm.proofs.Coded.{range-joined}
-use borrow.Author.Rules.{rules}
 use Rattle.bounds.proofs.range.is_in_range.Goals as goal
 
 pub returns : goal.returns

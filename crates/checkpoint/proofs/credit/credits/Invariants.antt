@@ -2,17 +2,11 @@
 -- nothing is read ahead.
 -- Assumes nothing.
 use Prim.Native.Nat.{ℕ, ◌≤◌, ◌-◌, ◌+◌, ◌*◌}
-use mathlib.Core.Path.{◌≡◌, refl, sym, ap, ◌∙◌}
-use mathlib.Core.List.{List, ◌++◌, append-nil}
-use native.Mathlib.Omega.{arith}
-use borrow.Author.Rules.{rules}
-use lib.ListN.{length, take, set, get_or, length-set, replicate}
-use lib.Seq.{take_all, get_or-set_other}
-use Rattle.field.specs.Field.{field}
-use Rattle.field.specs.Row.{row_at, total}
-use Rattle.field.proofs.Laws.{field-four}
-use Rattle.field.proofs.Rows.{zero-at, read-turn, rows-past, zeros-behind}
-use Rattle.plain.specs.Record.{widths_of, credit_widths, credits_from, credits_in}
+use mathlib.Core.Path.{◌≡◌}
+use mathlib.Core.List.{◌++◌}
+use lib.ListN.{length, take, get_or, replicate}
+use Rattle.field.specs.Row.{row_at}
+use Rattle.plain.specs.Record.{credits_from, credits_in}
 use Rattle.checkpoint.proofs.credit.credits.Given as goal
 
 abbrev pub invariant-loop-i : goal.invariant-loop-i

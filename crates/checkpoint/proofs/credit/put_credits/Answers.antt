@@ -1,10 +1,10 @@
 -- `checkpoint::credit::put_credits` meets its contract. The invariant: what is yet to be stored, stored, gives what the contract says.
 -- Assumes nothing.
-use Prim.Native.Nat.{ℕ, ◌≤◌, ◌-◌, ◌+◌, ◌*◌}
+use Prim.Native.Nat.{ℕ, ◌+◌, ◌*◌}
 use mathlib.Core.Path.{◌≡◌, refl, sym, ap, ◌∙◌}
 use mathlib.Core.List.{List, []}
 use native.Mathlib.Omega.{arith}
-use lib.ListN.{length, get_or, drop, drop_of_length-le, length-replicate}
+use lib.ListN.{get_or, drop, drop_of_length-le, length-replicate}
 use lib.Seq.{sets}
 use Rattle.field.specs.Field.{stored}
 use Rattle.field.specs.Row.{row, total}

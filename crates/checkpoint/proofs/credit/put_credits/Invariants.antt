@@ -1,17 +1,11 @@
 -- `checkpoint::credit::put_credits` meets its contract. The invariant: what is yet to be stored, stored, gives what the contract says.
 -- Assumes nothing.
-use Prim.Native.Nat.{ℕ, ◌≤◌, ◌-◌, ◌+◌, ◌*◌}
-use mathlib.Core.Path.{◌≡◌, refl, sym, ap, ◌∙◌}
-use mathlib.Core.List.{List, []}
-use native.Mathlib.Omega.{arith}
-use lib.ListN.{length, get_or, drop, drop_of_length-le, length-replicate}
+use Prim.Native.Nat.{◌≤◌, ◌-◌, ◌+◌, ◌*◌}
+use mathlib.Core.Path.{◌≡◌}
+use lib.ListN.{length, drop}
 use lib.Seq.{sets}
-use Rattle.field.specs.Field.{stored}
-use Rattle.field.specs.Row.{row, total}
-use Rattle.field.proofs.Laws.{stored-fits}
-use Rattle.plain.specs.Record.{widths_of, credit_widths, credits_from}
-use Rattle.plain.proofs.Record.{put-turn}
-use borrow.Author.Rules.{rules}
+use Rattle.field.specs.Row.{row}
+use Rattle.plain.specs.Record.{credit_widths, credits_from}
 use Rattle.checkpoint.proofs.credit.put_credits.Given as goal
 
 abbrev pub invariant-loop-i : goal.invariant-loop-i

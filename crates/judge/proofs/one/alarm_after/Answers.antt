@@ -1,7 +1,6 @@
 -- `judge::one::alarm_after` meets its contract. Assumes nothing.
 use native.Mathlib.Omega.{arith}
 use Rattle.alarm.proofs.Coded.{grows-so, counts-none, counts-more}
-use borrow.Author.Rules.{rules}
 use Rattle.judge.proofs.one.alarm_after.Goals as goal
 
 pub returns-then-test-is_waiting : goal.returns-then-test-is_waiting

@@ -3,7 +3,6 @@ use native.Mathlib.Omega.{arith}
 use mir.Syntax.{w32}
 use mir.Facts.{to_z-of_z, to_z_pos, sfits_widen}
 use Rattle.alarm.proofs.Wide.{widened, up_fits}
-use borrow.Author.Rules.{rules}
 use Rattle.judge.proofs.one.at_most.Goals as goal
 
 pub overflow_cast-result : goal.overflow_cast-result

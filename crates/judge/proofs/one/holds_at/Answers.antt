@@ -2,7 +2,6 @@
 use borrow.Author.Tests.{eq-eqb, ne_eqb}
 use mir.Facts.{to_z-of_z}
 use Rattle.alarm.specs.Alarm.{holds_at}
-use borrow.Author.Rules.{rules}
 use Rattle.judge.proofs.one.holds_at.Goals as goal
 
 pub returns-then-alarm-eq1 : goal.returns-then-alarm-eq1

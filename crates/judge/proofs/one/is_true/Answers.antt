@@ -3,7 +3,6 @@ use mir.Syntax.{w16}
 use mir.Val.{SFits}
 use mir.Facts.{to_z-of_z}
 use Rattle.alarm.proofs.Coded.{outside, over, under, inside}
-use borrow.Author.Rules.{rules}
 use Rattle.judge.proofs.one.is_true.Goals as goal
 
 pub returns-then-kind : goal.returns-then-kind

@@ -2,7 +2,6 @@
 use mir.Syntax.{w32}
 use mir.Facts.{to_z-of_z}
 use Rattle.alarm.specs.Alarm.{judged_by}
-use borrow.Author.Rules.{rules}
 use Rattle.judge.proofs.one.judged_by.Goals as goal
 
 pub returns : goal.returns

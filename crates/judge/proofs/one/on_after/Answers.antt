@@ -2,7 +2,6 @@
 use mathlib.Core.Path.{sym, ◌∙◌}
 use borrow.Author.Tests.{eq-eqb, ne_eqb}
 use Rattle.alarm.proofs.Coded.{on-waiting, on-on, on-off}
-use borrow.Author.Rules.{rules}
 use Rattle.judge.proofs.one.on_after.Goals as goal
 
 pub returns-then-is_waiting : goal.returns-then-is_waiting
