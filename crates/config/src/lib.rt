@@ -1,4 +1,6 @@
 // The settings that go beside the bank, from their bytes.
+#![tactic(auto)]
+
 ghost use Rattle.std.specs.Prelude.{◌≡◌, []};
 ghost use Rattle.calls.specs.Config.{alarm_setting_at, config_at, config_in};
 

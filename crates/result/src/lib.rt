@@ -1,4 +1,6 @@
 // A result of the library as one number: the document's number, its two values, the set value and the four signals.
+#![tactic(auto)]
+
 ghost use Rattle.std.specs.Prelude.{◌≡◌, cond, ◌+◌, ◌*◌};
 ghost use Rattle.setting.specs.Found.{numbers_of as bank_numbers};
 ghost use Rattle.plain.specs.declared.Answer.{Answer};
