@@ -7,6 +7,7 @@ use mir.Val.{SFits, of_z}
 use mir.Facts.{to_z-of_z}
 use Rattle.calls.specs.Result.{result_of}
 use Rattle.result.proofs.Laws.{four-bits}
+use borrow.Author.Rules.{rules}
 use Rattle.result.proofs.of_shown.Goals as goal
 use Rattle.result.proofs.of_shown.Goals.{After-signal_bits}
 
@@ -18,7 +19,7 @@ few c =
 -- the set value is a number of 16 bits
 fits : (c : After-signal_bits) → SFits w16 c.args.shown.value
 fits c =
-    record { sfits = c.struct_told-1.given.0.1 }
+    search rules
 
 pub overflow_mul-result-2 : goal.overflow_mul-result-2
 overflow_mul-result-2 c = omega (arith, few c)
