@@ -14,30 +14,28 @@ use Rattle.answer.specs.Numbers.{number_and_values}
 use Rattle.answer.specs.declared.Numbers.{Numbers}
 use Rattle.line.specs.Text.{refusal}
 use Rattle.line.proofs.Laws.{line-put, small, first-ones, length-refusal}
-use Rattle.line.proofs.text.put_refusal.Statement.{statement}
-use Rattle.line.proofs.text.put_refusal.Tie as tie
+use Rattle.line.proofs.text.put_refusal.Goals as goal
 
-returns : tie.Need-returns
-returns c = rw (lt-leb 168 _ c.if1.true)
+pub returns-then-out-lt168 : goal.returns-then-out-lt168
+returns-then-out-lt168 c = rw (lt-leb 168 _ c.if-out-lt168.true)
 
--- there are at most three numbers
-counted : (c : tie.After-put-line-arg) → c.before.before.before.before.of-checked.result.count ≤ 3
+pub slice_bounds-numbers-end : goal.slice_bounds-numbers-end
 unfolding number_and_values
-counted c =
-    let numbers = c.before.before.before.before.of-checked in
-    let found = c.before.before.before.before.before.before.before.args.found in
-    omega (arith, ap (λ (x : Numbers). x.count) numbers.ensures, length-refusal found)
+slice_bounds-numbers-end c = omega (arith, ap (λ (x : Numbers). x.count) c.of_checked-refusal.ensures, length-refusal c.args.found)
 
-slice-aggregate-put-line : tie.Need-slice-aggregate-put-line
-slice-aggregate-put-line c = sym (length-take-le _ _ (counted c.before))
+pub slice_bounds-put_line-end : goal.slice_bounds-put_line-end
+unfolding number_and_values
+slice_bounds-put_line-end c = sym (length-take-le _ _ ((let counted : c.of_checked-refusal.result.count ≤ 3 = let numbers = c.of_checked-refusal in
+    let found = c.args.found in
+    omega (arith, ap (λ (x : Numbers). x.count) numbers.ensures, length-refusal found) in counted)))
 
-returns-2 : tie.Need-returns-2
+pub returns : goal.returns
 unfolding refusal number_and_values
-returns-2 c =
-    let a = c.before.before.before.before.before.before.before.before.before.before.before.args in
+returns c =
+    let a = c.args in
     let out = a.out.now in
     let numbers = bank_numbers a.found in
-    let refusal = c.before.before.before.before.before.before.before.before.of-checked in
+    let refusal = c.of_checked-refusal in
     let x = refusal.result in
     let few = length-refusal a.found in
     rw (le-leb 168 (length out) (omega arith))
@@ -45,19 +43,4 @@ returns-2 c =
     ((λ i. take x.count (small x.number (omega arith) i ∷ small x.first (omega arith) i ∷ small x.second (omega arith) i ∷ []))
     ∙ ap (λ (y : Numbers). take y.count (pos y.number ∷ pos y.first ∷ pos y.second ∷ [])) refusal.ensures
     ∙ first-ones numbers few)
-    c.before.before.put-line.ensures)
-
-pub put-refusal-spec : {M : Type 1} → statement M
-put-refusal-spec =
-    tie.close
-    (tie.spec
-    returns
-    (λ c κs. search rules)
-    (λ c. search rules)
-    (λ c. search rules)
-    (λ c. search rules)
-    counted
-    slice-aggregate-put-line
-    (λ c κs. search rules)
-    (λ c. search rules)
-    returns-2)
+    c.put_line.ensures)

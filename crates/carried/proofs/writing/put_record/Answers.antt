@@ -11,34 +11,21 @@ use Rattle.plain.specs.Record.{Checkpoint, credit_widths, widths_of, record_size
 use Rattle.plain.proofs.Record.{length-record}
 use Rattle.calls.proofs.Written.{part-put}
 use borrow.Author.Rules.{rules}
-use Rattle.carried.proofs.writing.put_record.Statement.{statement}
-use Rattle.carried.proofs.writing.put_record.Tie as tie
+use Rattle.carried.proofs.writing.put_record.Goals as goal
 
-part-write-end : tie.Need-slice-bounds-write-end
+pub slice_bounds_write_end : goal.slice_bounds_write_end
 unfolding credit_widths widths_of total
-part-write-end c =
-    omega (arith, c.before.requires)
+slice_bounds_write_end c =
+    omega (arith, c.requires)
 
-returns : tie.Need-returns
+pub returns : goal.returns
 unfolding credit_widths widths_of total sized
 returns c =
-    let start = c.before.before.before.before.before in
-    let write = c.before.before.write in
-    let a = start.args in
+    let write = c.write in
+    let a = c.args in
     let bytes = a.bytes.now in
     let many : length a.credits ≡ 99 = search rules in
     let checkpoint : Checkpoint = record { position = a.position; credits = a.credits; alarms = a.alarms } in
-    let size : length (take record_size (drop 1 bytes)) ≡ record_size = length-take record_size (drop 1 bytes) ∙ omega (arith, length-drop 1 bytes, start.requires) in
+    let size : length (take record_size (drop 1 bytes)) ≡ record_size = length-take record_size (drop 1 bytes) ∙ omega (arith, length-drop 1 bytes, c.requires) in
     let wrote : _ ≡ record_of checkpoint = rw (eq-eqb _ record_size size) at write.ensures in
-    ap (put_mid 1 record_size bytes) wrote ∙ part-put (record_of checkpoint) bytes start.requires (length-record checkpoint many)
-
-pub put-record-spec : {M : Type 1} → statement M
-put-record-spec =
-    tie.close
-    (tie.spec
-    (λ c. search rules)
-    (λ c. search rules)
-    part-write-end
-    (λ c κs. search rules)
-    (λ c. search rules)
-    returns)
+    ap (put_mid 1 record_size bytes) wrote ∙ part-put (record_of checkpoint) bytes c.requires (length-record checkpoint many)
