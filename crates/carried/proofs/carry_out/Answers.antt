@@ -39,9 +39,9 @@ put_rest-requires c =
     let put-retained = c.put_retained in
     ap length put-retained.ensures ∙ simp (length-sets, length-set) c.requires.long
 
-pub slice_bounds_copy_end : goal.slice_bounds_copy_end
+pub slice_bounds-copy-end : goal.slice_bounds-copy-end
 unfolding credit_widths widths_of total
-slice_bounds_copy_end c =
+slice_bounds-copy-end c =
     omega (
       arith,
       (let long : length c.put_rest.new.bytes ≡ state_size = let put-retained = c.put_retained in

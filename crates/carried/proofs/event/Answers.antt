@@ -35,7 +35,7 @@ returns-then-not-is_state c =
     let a = c.args in
     no-state ((over c.args.bank.now c.args.config)) a.store.now a.bytes.now a.event ((let other : is_bank ((effect_on ((over c.args.bank.now c.args.config)) c.args.store.now c.args.bytes.now c.args.event)).answer ≡ false = ap (λ (x : Effect). is_bank x.answer) (sym ((let is : c.event-effect.result ≡ (effect_on ((over c.args.bank.now c.args.config)) c.args.store.now c.args.bytes.now c.args.event) = let byte = c.byte-power in
     let run_in = c.run_in-run in
-    rw (byte.ensures, run_in.ensures) at c.event-effect.ensures in is))) ∙ not-bank c.event-effect.result.answer (opened (opened c.in_default.in_default-own.keys2)) in other)) (sym c.is_state.ensures ∙ not-true _ c.if-not-is_state.true-raw)
+    rw (byte.ensures, run_in.ensures) at c.event-effect.ensures in is))) ∙ not-bank c.event-effect.result.answer (opened c.in_default.in_default-own.keys2) in other)) (sym c.is_state.ensures ∙ not-true _ c.if-not-is_state.true-raw)
 
 pub carry_out-requires : goal.carry_out-requires
 unfolding state_in
@@ -64,7 +64,7 @@ returns-in-Accepted c =
     rw (byte.ensures, run_in.ensures) at c.event-effect.ensures in is))
     ∙ accepted-event ((over c.args.bank.now c.args.config)) a.store.now a.bytes.now a.event ((let other : is_bank ((effect_on ((over c.args.bank.now c.args.config)) c.args.store.now c.args.bytes.now c.args.event)).answer ≡ false = ap (λ (x : Effect). is_bank x.answer) (sym ((let is : c.event-effect.result ≡ (effect_on ((over c.args.bank.now c.args.config)) c.args.store.now c.args.bytes.now c.args.event) = let byte = c.byte-power in
     let run_in = c.run_in-run in
-    rw (byte.ensures, run_in.ensures) at c.event-effect.ensures in is))) ∙ not-bank c.event-effect.result.answer (opened (opened c.in_default.in_default-own.keys2)) in other)) ((let a-state : is_state c.args.bytes.now ≡ true = sym c.is_state.ensures ∙ not-false _ c.if-not-is_state.false-raw in a-state)) met
+    rw (byte.ensures, run_in.ensures) at c.event-effect.ensures in is))) ∙ not-bank c.event-effect.result.answer (opened c.in_default.in_default-own.keys2) in other)) ((let a-state : is_state c.args.bytes.now ≡ true = sym c.is_state.ensures ∙ not-false _ c.if-not-is_state.false-raw in a-state)) met
 
 pub returns-in_default-answer : goal.returns-in_default-answer
 unfolding state_in
@@ -79,4 +79,4 @@ returns-in_default-answer c =
     rw (byte.ensures, run_in.ensures) at c.event-effect.ensures in is))
     ∙ refused-event ((over c.args.bank.now c.args.config)) a.store.now a.bytes.now a.event ((let other : is_bank ((effect_on ((over c.args.bank.now c.args.config)) c.args.store.now c.args.bytes.now c.args.event)).answer ≡ false = ap (λ (x : Effect). is_bank x.answer) (sym ((let is : c.event-effect.result ≡ (effect_on ((over c.args.bank.now c.args.config)) c.args.store.now c.args.bytes.now c.args.event) = let byte = c.byte-power in
     let run_in = c.run_in-run in
-    rw (byte.ensures, run_in.ensures) at c.event-effect.ensures in is))) ∙ not-bank c.event-effect.result.answer (opened (opened c.in_default.in_default-own.keys2)) in other)) ((let a-state : is_state c.args.bytes.now ≡ true = sym c.is_state.ensures ∙ not-false _ c.if-not-is_state.false-raw in a-state)) met
+    rw (byte.ensures, run_in.ensures) at c.event-effect.ensures in is))) ∙ not-bank c.event-effect.result.answer (opened c.in_default.in_default-own.keys2) in other)) ((let a-state : is_state c.args.bytes.now ≡ true = sym c.is_state.ensures ∙ not-false _ c.if-not-is_state.false-raw in a-state)) met

@@ -42,7 +42,7 @@ returns-in-Accepted-answer c =
     let write = c.write in
     let a = c.args in
     let made = ap (carried_out a.bytes.now) ((let left : let a = c.args in
-    after c.make-made.result.state c.make-made.new.1.1.0 c.make-made.result.answer ≡ make_outcome (over a.bank.now a.config) a.store.now = c.make-made.ensures in left)) ∙ make-left (over a.bank.now a.config) a.store.now a.bytes.now ((let room : roomy c.args.bytes.now ≡ true = eq-eqb (length c.args.bytes.now) state_size (omega (arith, c.if-bytes-ne-SIZE.false)) in room)) in
+    after c.make-made.result.state c.make-made.new.store c.make-made.result.answer ≡ make_outcome (over a.bank.now a.config) a.store.now = c.make-made.ensures in left)) ∙ make-left (over a.bank.now a.config) a.store.now a.bytes.now ((let room : roomy c.args.bytes.now ≡ true = eq-eqb (length c.args.bytes.now) state_size (omega (arith, c.if-bytes-ne-SIZE.false)) in room)) in
     rw (write.ensures, (let room : roomy c.args.bytes.now ≡ true = eq-eqb (length c.args.bytes.now) state_size (omega (arith, c.if-bytes-ne-SIZE.false)) in room)) (rw (ap is_accepted c.in-Accepted-answer.is) at made)
 
 pub returns-in_default-answer : goal.returns-in_default-answer
@@ -50,5 +50,5 @@ unfolding carried_out roomy credit_widths widths_of total
 returns-in_default-answer c =
     let a = c.args in
     let made = ap (carried_out a.bytes.now) ((let left : let a = c.args in
-    after c.make-made.result.state c.make-made.new.1.1.0 c.make-made.result.answer ≡ make_outcome (over a.bank.now a.config) a.store.now = c.make-made.ensures in left)) ∙ make-left (over a.bank.now a.config) a.store.now a.bytes.now ((let room : roomy c.args.bytes.now ≡ true = eq-eqb (length c.args.bytes.now) state_size (omega (arith, c.if-bytes-ne-SIZE.false)) in room)) in
+    after c.make-made.result.state c.make-made.new.store c.make-made.result.answer ≡ make_outcome (over a.bank.now a.config) a.store.now = c.make-made.ensures in left)) ∙ make-left (over a.bank.now a.config) a.store.now a.bytes.now ((let room : roomy c.args.bytes.now ≡ true = eq-eqb (length c.args.bytes.now) state_size (omega (arith, c.if-bytes-ne-SIZE.false)) in room)) in
     rw (is-refused c.make-made.result.answer (opened c.in_default-answer.in_default-answer-own.keys2)) at made

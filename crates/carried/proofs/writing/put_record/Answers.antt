@@ -13,10 +13,9 @@ use Rattle.calls.proofs.Written.{part-put}
 use borrow.Author.Rules.{rules}
 use Rattle.carried.proofs.writing.put_record.Goals as goal
 
-pub slice_bounds_write_end : goal.slice_bounds_write_end
+pub slice_bounds-write-end : goal.slice_bounds-write-end
 unfolding credit_widths widths_of total
-slice_bounds_write_end c =
-    omega (arith, c.requires)
+slice_bounds-write-end c = omega (arith, c.requires)
 
 pub returns : goal.returns
 unfolding credit_widths widths_of total sized

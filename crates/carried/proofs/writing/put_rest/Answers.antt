@@ -33,12 +33,12 @@ unfolding credit_widths widths_of total
 returns c =
     let put = c.put in
     let kind-of = c.kind_of in
-    let bits_of = c.bits_of in
+    let value-bits = c.bits_of in
     let a = c.args in
     let bytes = a.bytes.now in
     let run = a.run in
     let first = set (set bytes rest_from run.unsaved) 425 (kind_of run.measured) in
     let long : length first ≡ length bytes = simp (length-set, length-set) in
     put.ensures
-    ∙ rw (kind-of.ensures, bits_of.ensures) (stored-fits 8 first 426 (bits_of run.measured) (omega (arith, long, c.requires)))
+    ∙ rw (kind-of.ensures, value-bits.ensures) (stored-fits 8 first 426 (bits_of run.measured) (omega (arith, long, c.requires)))
     ∙ ap (sets bytes rest_from) (rest-row run (search rules))
