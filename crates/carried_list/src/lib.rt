@@ -1,4 +1,6 @@
 // A list of events is run, and leaves its state as bytes.
+#![tactic(auto)]
+
 ghost use Rattle.std.specs.Prelude.{◌≡◌, false};
 ghost use Rattle.plain.specs.Setup.{over};
 ghost use Rattle.calls.specs.Calls.{after, fitting, run_over};

@@ -1,4 +1,6 @@
 // The settings that go beside the bank, from their bytes.
+#![tactic(auto)]
+
 ghost use Rattle.std.specs.Prelude.{◌≡◌, []};
 ghost use Rattle.calls.specs.Config.{alarm_setting_at, config_at, config_in};
 
@@ -44,6 +46,7 @@ fn settings(bytes: &[u8]) -> Config
 }
 
 // Those that no bytes are read as.
+#[tactic(auto, unfolding(calls::specs::Config::alarm_setting_at, field::specs::Field::field, field::specs::Field::signed_field, field::specs::Field::num))]
 fn none() -> Config
     ensures { result ≡ config_at [] }
 {
@@ -66,6 +69,7 @@ fn none() -> Config
 }
 
 // All settings. Bytes of another size are read as none.
+#[tactic(auto, unfolding(calls::specs::Config::config_in, calls::specs::Config::config_sized))]
 pub fn read(bytes: &[u8]) -> Config
     ensures { result ≡ config_in bytes.now }
 {

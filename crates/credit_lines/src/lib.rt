@@ -1,4 +1,6 @@
 // The lines of the program `credits`: those of all steps of a state.
+#![tactic(auto)]
+
 ghost use Rattle.std.specs.Prelude.{◌≡◌, [], ◌∷◌, ◌+◌, ◌≤◌, length};
 ghost use Rattle.decimal.specs.Text.{put, put_text};
 ghost use Rattle.line.specs.Sheet.{credit_lines};

@@ -1,4 +1,6 @@
 // A list of events as bytes, run over the controller: demand 3.
+#![tactic(auto)]
+
 ghost use Rattle.std.specs.Prelude.{◌≡◌};
 ghost use Rattle.plain.specs.Setup.{over};
 ghost use Rattle.controller.specs.Holds.{state_of};

@@ -1,4 +1,6 @@
 // The lines of the programs `sheet` and `credits`: run one after the other over one controller, an input that comes in parts.
+#![tactic(auto)]
+
 ghost use Rattle.std.specs.Prelude.{◌≡◌};
 ghost use Rattle.line.specs.Beside.{sheet_over};
 ghost use Rattle.line.specs.Part.{after, found, run_of, finish_of, Begun};

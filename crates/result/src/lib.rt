@@ -1,4 +1,6 @@
 // A result of the library as one number: the document's number, its two values, the set value and the four signals.
+#![tactic(auto)]
+
 ghost use Rattle.std.specs.Prelude.{◌≡◌, cond, ◌+◌, ◌*◌};
 ghost use Rattle.setting.specs.Found.{numbers_of as bank_numbers};
 ghost use Rattle.plain.specs.declared.Answer.{Answer};
@@ -20,6 +22,7 @@ fn packed_of(numbers: Numbers) -> u64
 }
 
 // What the check of a bank finds.
+#[tactic(auto, unfolding(calls::specs::Result::packed, answer::specs::Numbers::number_and_values))]
 pub fn of_checked(found: Checked) -> u64
     ensures { result ≡ packed (bank_numbers found) }
 {
@@ -27,6 +30,7 @@ pub fn of_checked(found: Checked) -> u64
 }
 
 // What writing a bank gives.
+#[tactic(auto, unfolding(calls::specs::Result::packed, arrays::specs::Write::written_numbers))]
 pub fn of_written(written: Written) -> u64
     ensures { result ≡ packed (written_numbers written) }
 {
@@ -60,6 +64,7 @@ fn of_shown(shown: Shown) -> u64
 }
 
 // An answer: what is shown if it is accepted.
+#[tactic(auto, unfolding(calls::specs::Result::result_of, plain::specs::Answer::numbers_of))]
 pub fn of_answer(answer: Answer) -> u64
     ensures { result ≡ result_of answer }
 {

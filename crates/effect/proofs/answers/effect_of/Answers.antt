@@ -10,6 +10,7 @@ use borrow.Author.Tests.{not-true, not-false}
 use Rattle.effect.proofs.Laws.{kept-alarms, moved-alarms}
 use borrow.Author.Rules.{rules}
 use Rattle.effect.proofs.answers.effect_of.Goals as goal
+use Rattle.effect.proofs.answers.effect_of.Goals.{then-not-keeps, else-not-keeps}
 
 pub returns : goal.returns
 unfolding here_in
@@ -30,10 +31,10 @@ returns c =
           let accepted = start.done.accepted in
           let keeps = c.keeps in
           let idle = c.idle-idle in
-          ⊎_elim
-          (λ x. x.4 ∙ x.3.ensures
-          ∙ rw x.2.ensures (moved-alarms accepted idle.result _ _ _ start.event _ _ _ (sym keeps.ensures ∙ not-true _ x.0.taken)))
-          (λ x. x.1 ∙ kept-alarms accepted idle.result _ _ _ start.event _ _ _ idle.ensures (sym keeps.ensures ∙ not-false _ x.0.left)) c.if-not-keeps.branch in alarms-are),
+          elim c.if-not-keeps.branch [
+              then-not-keeps w ↦ w.alarms-is ∙ w.alarms_by-alarms.ensures ∙ rw w.by_parts.ensures (moved-alarms accepted idle.result _ _ _ start.event _ _ _ (sym keeps.ensures ∙ w.if-not-keeps.true))
+            | else-not-keeps w ↦ w.alarms-is ∙ kept-alarms accepted idle.result _ _ _ start.event _ _ _ idle.ensures (sym keeps.ensures ∙ w.if-not-keeps.false)
+          ] in alarms-are),
       there,
       settings-are,
       by_parts.ensures,

@@ -17,6 +17,7 @@ use Rattle.effect.proofs.Laws.{said_in, unsound, sound-state, few, return-bounde
 use mathlib.Core.Logic.{⊎_elim}
 use borrow.Author.Rules.{rules}
 use Rattle.effect.proofs.events.event.Goals as goal
+use Rattle.effect.proofs.events.event.Goals.{then-is_return, else-is_return}
 use borrow.Enum.Refused.{opened}
 
 pub returns-in_default : goal.returns-in_default
@@ -131,7 +132,9 @@ returns c =
     } in ready)) ((let bounded-is : let args = c.args in
     c.if-is_return.bounded ≡ bounded_for args.config args.store.now args.event = let args = c.args in
     let is-return = c.is_return in
-    ⊎_elim (λ x. x.2 ∙ x.1.ensures ∙ return-bounded args.config args.store.now args.event (sym is-return.ensures ∙ x.0.taken))
-    (λ x. x.1 ∙ other-bounded args.config args.store.now args.event (sym is-return.ensures ∙ x.0.left)) c.if-is_return.branch in bounded-is))
+    elim c.if-is_return.branch [
+              then-is_return w ↦ w.bounded-is ∙ w.is_bounded-bounded.ensures ∙ return-bounded args.config args.store.now args.event (sym is-return.ensures ∙ w.if-is_return.true)
+            | else-is_return w ↦ w.bounded-is ∙ other-bounded args.config args.store.now args.event (sym is-return.ensures ∙ w.if-is_return.false)
+          ] in bounded-is))
     ∙ sym (event-known setup a.store.now a.power a.run a.event ((let ok : found_in c.args.bank.now ≡ Checked.Accepted = let found = c.check-found in
     sym (numbers-tell found.result (found_in c.args.bank.now) found.ensures) ∙ c.in-Accepted.is in ok)))

@@ -68,8 +68,8 @@ loop-remaining-preserved c =
     let turn = c.turn-moved in
     let left = after_moved setup l.moved l.credits l.store in
     turned setup _ _ _ _ _ _ left l.at l.remaining l.invariant c.loop-remaining-test.true _ _ _
-    (turn.ensures.0 ∙ ap (λ (asked : Asked). events_from setup left (asked_events (asked ∷ []))) c.asked_at.ensures)
-    turn.ensures.1.here-is turn.ensures.1.idle-is
+    (turn.ensures.store_after ∙ ap (λ (asked : Asked). events_from setup left (asked_events (asked ∷ []))) c.asked_at.ensures)
+    turn.ensures.told.here-is turn.ensures.told.idle-is
 
 pub shape_of-store : goal.shape_of-store
 unfolding sized

@@ -23,12 +23,13 @@ use Rattle.effect.proofs.Laws.{few, said_in, return-bounded, other-bounded, kept
 use Rattle.effect.proofs.Walk.{one-turn}
 use borrow.Author.Rules.{rules}
 use Rattle.effect.proofs.list.turn.Goals as goal
+use Rattle.effect.proofs.list.turn.Goals.{then-not-keeps, else-not-keeps, then-is_return, else-is_return}
 
 pub returns-in_default : goal.returns-in_default
 unfolding events_from
 returns-in_default c =
     let pre = c.requires in
-    (rw c.in_default.is, record { here-is = pre.known.here-is; idle-is = pre.idle-is })
+    record { store_after = rw c.in_default.is; told = record { here-is = pre.known.here-is; idle-is = pre.idle-is } }
 
 pub known-done-requires : goal.known-done-requires
 known-done-requires c =
@@ -47,7 +48,7 @@ settle-requires c =
     c.requires.long
 
 pub shape_of-store-then-done : goal.shape_of-store-then-done
-shape_of-store-then-done c = c.write.auto.0
+shape_of-store-then-done c = c.write.auto.store
 
 pub returns-then-done : goal.returns-then-done
 unfolding events_from
@@ -61,8 +62,8 @@ returns-then-done c =
     record {
       sound = record { known = within.known; sound = stands-sound _ stands.ok _ _ stands.standing; alarms = stands.ok.alarms };
       whole = stands-sized _ stands.ok _ _ stands.standing;
-    } in ready)).whole in (
-      rw c.in-Of.is ((let moved_on : let a = c.args in
+    } in ready)).whole in record {
+      store_after = rw c.in-Of.is ((let moved_on : let a = c.args in
           let setup = over a.bank.now a.config in
           let done = c.known-done.result in
           let left = c.by_parts-left.result in
@@ -94,11 +95,13 @@ returns-then-done c =
             sound = record { known = within.known; sound = stands-sound _ stands.ok _ _ stands.standing; alarms = stands.ok.alarms };
             whole = stands-sized _ stands.ok _ _ stands.standing;
           } in ready)) ((let bounded-is : let args = c.args in
-          c.if-is_return.ranges ≡ bounded_for args.config args.store.now c.in-Of.event = let args = c.args in
+          c.if-is_return.fits ≡ bounded_for args.config args.store.now c.in-Of.event = let args = c.args in
           let event = c.in-Of.event in
           let is-return = c.is_return in
-          ⊎_elim (λ x. x.3 ∙ x.2.ensures ∙ return-bounded args.config args.store.now event (sym is-return.ensures ∙ x.0.taken))
-          (λ x. x.1 ∙ other-bounded args.config args.store.now event (sym is-return.ensures ∙ x.0.left)) c.if-is_return.branch in bounded-is))) in
+          elim c.if-is_return.branch [
+              then-is_return w ↦ w.fits-is ∙ w.is_bounded-fits.ensures ∙ return-bounded args.config args.store.now event (sym is-return.ensures ∙ w.if-is_return.true)
+            | else-is_return w ↦ w.fits-is ∙ other-bounded args.config args.store.now event (sym is-return.ensures ∙ w.if-is_return.false)
+          ] in bounded-is))) in
           one-turn setup a.moved a.credits.now a.store.now c.requires.stands event (to by_parts.result) does c.if-not-keeps.alarms
           c.here_after-there.result ((let alarms-are : let a = c.args in
           let done = c.known-done.result in
@@ -109,23 +112,23 @@ returns-then-done c =
           let accepted = c.known-done.result.accepted in
           let event = c.in-Of.event in
           let keeps = c.keeps in
-          ⊎_elim
-          (λ x. x.6 ∙ x.4.ensures
-          ∙ rw x.3.ensures (moved-alarms accepted idle _ _ _ event _ _ _ (sym keeps.ensures ∙ not-true _ x.0.taken)))
-          (λ x. x.1 ∙ kept-alarms accepted idle _ _ _ event _ _ _ c.requires.idle-is (sym keeps.ensures ∙ not-false _ x.0.left)) c.if-not-keeps.branch in alarms-are)) (said_in setup by_parts.result.position known-there) credits written gains saves in moved_on) _ _ (settle.ensures ∙ rw credit-after.ensures) (rw (saving.true, c.write.ensures, whole))),
-      record {
+          elim c.if-not-keeps.branch [
+              then-not-keeps w ↦ w.alarms-is ∙ w.alarms_by-alarms.ensures ∙ rw w.by_parts.ensures (moved-alarms accepted idle _ _ _ event _ _ _ (sym keeps.ensures ∙ w.if-not-keeps.true))
+            | else-not-keeps w ↦ w.alarms-is ∙ kept-alarms accepted idle _ _ _ event _ _ _ c.requires.idle-is (sym keeps.ensures ∙ w.if-not-keeps.false)
+          ] in alarms-are)) (said_in setup by_parts.result.position known-there) credits written gains saves in moved_on) _ _ (settle.ensures ∙ rw credit-after.ensures) (rw (saving.true, c.write.ensures, whole)));
+      told = record {
         here-is = (let said : c.here_after-there.result ≡ said_at c.args.bank.now c.args.settings c.by_parts-left.result.position = c.here_after-there.ensures ∙ after-said _ _ c.args.moved.here c.args.moved.progress.position _ c.requires.known.here-is in said);
         idle-is = (let idle-is : let a = c.args in
             c.if-not-keeps.idle ≡ all_idle a.config.alarms c.if-not-keeps.alarms = let pre = c.requires in
-            ⊎_elim (λ x. x.7 ∙ x.5.ensures ∙ rw x.6) (λ x. x.2 ∙ pre.idle-is ∙ rw x.1) c.if-not-keeps.branch in idle-is);
-      },
-    )
+            elim c.if-not-keeps.branch [ then-not-keeps w ↦ w.idle-is ∙ w.idle-idle.ensures ∙ rw w.alarms-is | else-not-keeps w ↦ w.idle-is ∙ pre.idle-is ∙ rw w.alarms-is ] in idle-is);
+      };
+    }
 
 pub returns-else-done : goal.returns-else-done
 unfolding events_from
 returns-else-done c =
-    let credit-after = c.credit_after-credit in (
-      rw c.in-Of.is ((let moved_on : let a = c.args in
+    let credit-after = c.credit_after-credit in record {
+      store_after = rw c.in-Of.is ((let moved_on : let a = c.args in
           let setup = over a.bank.now a.config in
           let done = c.known-done.result in
           let left = c.by_parts-left.result in
@@ -157,11 +160,13 @@ returns-else-done c =
             sound = record { known = within.known; sound = stands-sound _ stands.ok _ _ stands.standing; alarms = stands.ok.alarms };
             whole = stands-sized _ stands.ok _ _ stands.standing;
           } in ready)) ((let bounded-is : let args = c.args in
-          c.if-is_return.ranges ≡ bounded_for args.config args.store.now c.in-Of.event = let args = c.args in
+          c.if-is_return.fits ≡ bounded_for args.config args.store.now c.in-Of.event = let args = c.args in
           let event = c.in-Of.event in
           let is-return = c.is_return in
-          ⊎_elim (λ x. x.3 ∙ x.2.ensures ∙ return-bounded args.config args.store.now event (sym is-return.ensures ∙ x.0.taken))
-          (λ x. x.1 ∙ other-bounded args.config args.store.now event (sym is-return.ensures ∙ x.0.left)) c.if-is_return.branch in bounded-is))) in
+          elim c.if-is_return.branch [
+              then-is_return w ↦ w.fits-is ∙ w.is_bounded-fits.ensures ∙ return-bounded args.config args.store.now event (sym is-return.ensures ∙ w.if-is_return.true)
+            | else-is_return w ↦ w.fits-is ∙ other-bounded args.config args.store.now event (sym is-return.ensures ∙ w.if-is_return.false)
+          ] in bounded-is))) in
           one-turn setup a.moved a.credits.now a.store.now c.requires.stands event (to by_parts.result) does c.if-not-keeps.alarms
           c.here_after-there.result ((let alarms-are : let a = c.args in
           let done = c.known-done.result in
@@ -172,14 +177,14 @@ returns-else-done c =
           let accepted = c.known-done.result.accepted in
           let event = c.in-Of.event in
           let keeps = c.keeps in
-          ⊎_elim
-          (λ x. x.6 ∙ x.4.ensures
-          ∙ rw x.3.ensures (moved-alarms accepted idle _ _ _ event _ _ _ (sym keeps.ensures ∙ not-true _ x.0.taken)))
-          (λ x. x.1 ∙ kept-alarms accepted idle _ _ _ event _ _ _ c.requires.idle-is (sym keeps.ensures ∙ not-false _ x.0.left)) c.if-not-keeps.branch in alarms-are)) (said_in setup by_parts.result.position known-there) credits written gains saves in moved_on) _ _ (c.settle.ensures ∙ rw credit-after.ensures) (rw c.if-done.false)),
-      record {
+          elim c.if-not-keeps.branch [
+              then-not-keeps w ↦ w.alarms-is ∙ w.alarms_by-alarms.ensures ∙ rw w.by_parts.ensures (moved-alarms accepted idle _ _ _ event _ _ _ (sym keeps.ensures ∙ w.if-not-keeps.true))
+            | else-not-keeps w ↦ w.alarms-is ∙ kept-alarms accepted idle _ _ _ event _ _ _ c.requires.idle-is (sym keeps.ensures ∙ w.if-not-keeps.false)
+          ] in alarms-are)) (said_in setup by_parts.result.position known-there) credits written gains saves in moved_on) _ _ (c.settle.ensures ∙ rw credit-after.ensures) (rw c.if-done.false));
+      told = record {
         here-is = (let said : c.here_after-there.result ≡ said_at c.args.bank.now c.args.settings c.by_parts-left.result.position = c.here_after-there.ensures ∙ after-said _ _ c.args.moved.here c.args.moved.progress.position _ c.requires.known.here-is in said);
         idle-is = (let idle-is : let a = c.args in
             c.if-not-keeps.idle ≡ all_idle a.config.alarms c.if-not-keeps.alarms = let pre = c.requires in
-            ⊎_elim (λ x. x.7 ∙ x.5.ensures ∙ rw x.6) (λ x. x.2 ∙ pre.idle-is ∙ rw x.1) c.if-not-keeps.branch in idle-is);
-      },
-    )
+            elim c.if-not-keeps.branch [ then-not-keeps w ↦ w.idle-is ∙ w.idle-idle.ensures ∙ rw w.alarms-is | else-not-keeps w ↦ w.idle-is ∙ pre.idle-is ∙ rw w.alarms-is ] in idle-is);
+      };
+    }

@@ -41,7 +41,7 @@ returns-in-To c = λ config store alarms ready.
     let position = a.progress.position in
     let whole = c.whole_value-whole in
     ◌∙◌ {b = command_move a.settings a.here (first_at a.bank.now a.settings position) whole.result position a.pressed} c.command-made.ensures
-    (λ i. command_move (known.settings-are i) (said_in setup position known i) (first-in setup position known i) (whole.ensures.0 i) position a.pressed) in moved) config ready.sound.known)
+    (λ i. command_move (known.settings-are i) (said_in setup position known i) (first-in setup position known i) (whole.ensures.value i) position a.pressed) in moved) config ready.sound.known)
     ∙ sym (press-on setup a.power run ready.sound.sound ready.sound.alarms c.if-not-power.false-raw a.pressed)
     ∙ sym (known-plain setup store a.power run (press a.pressed) ready.whole)
 
@@ -62,6 +62,6 @@ returns-in-No c = λ config store alarms ready.
     let position = a.progress.position in
     let whole = c.whole_value-whole in
     ◌∙◌ {b = command_move a.settings a.here (first_at a.bank.now a.settings position) whole.result position a.pressed} c.command-made.ensures
-    (λ i. command_move (known.settings-are i) (said_in setup position known i) (first-in setup position known i) (whole.ensures.0 i) position a.pressed) in moved) config ready.sound.known)
+    (λ i. command_move (known.settings-are i) (said_in setup position known i) (first-in setup position known i) (whole.ensures.value i) position a.pressed) in moved) config ready.sound.known)
     ∙ sym (press-on setup a.power run ready.sound.sound ready.sound.alarms c.if-not-power.false-raw a.pressed)
     ∙ sym (known-plain setup store a.power run (press a.pressed) ready.whole)

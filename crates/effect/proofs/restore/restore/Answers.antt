@@ -97,4 +97,4 @@ returns c =
           brought-back.result.position ≡ position_in args.store.now = ap (λ (run : Run). run.position) c.brought_back-back.ensures in position-is),
       settings-are,
       bounded,
-    ) (simp (both-on, both-and)) in readable) config settings-are bounded) ∙ not-false _ if3.false))
+    ) (simp (both-on, both-and)) in readable) config settings-are bounded) ∙ not-false _ if3.false-raw))

@@ -47,5 +47,5 @@ returns c =
     ticked.ensures alarms ∙ rw (said_in setup a.progress.position ready.sound.known, ready.sound.known.settings-are) in
     ap (effect_of setup store run (Event.Tick a.reading)) c.accepted.ensures
     ∙ ticked-effect setup store run a.reading c.saves.result ticked.result left c.saves.ensures
-    ∙ sym (tick-on setup a.power run ready.sound.sound ready.sound.alarms if1.false a.reading (sym outside.ensures ∙ if2.false))
+    ∙ sym (tick-on setup a.power run ready.sound.sound ready.sound.alarms if1.false-raw a.reading (sym outside.ensures ∙ if2.false))
     ∙ sym (known-plain setup store a.power run (tick a.reading) ready.whole)

@@ -1,0 +1,26 @@
+-- `credit_lines::put_credits` meets its contract. The invariant: the lines of the steps that are left, stored where they are due, give the whole, and
+-- there is room for them. Assumes nothing.
+use Prim.Native.Nat.{ℕ, ◌+◌, ◌*◌, ◌-◌, ◌≤◌}
+use mathlib.Core.List.{List, [], ◌∷◌}
+use mathlib.Core.Path.{◌≡◌, refl, sym, ap, ◌∙◌}
+use native.Mathlib.Omega.{arith}
+use borrow.Author.Rules.{rules}
+use lib.ListN.{length, drop, get_or, drop_of_length-le}
+use Rattle.decimal.specs.Text.{put_text}
+use Rattle.decimal.proofs.Laws.{put_is, end_is}
+use Rattle.line.specs.Sheet.{credit_lines}
+use Rattle.line.proofs.Laws.{length-credits}
+use Rattle.credit_lines.proofs.Turn.{credits-turn}
+use Rattle.credit_lines.proofs.put_credits.Given as goal
+
+pub record Due (out₀ credits out : List ℕ) (at i : ℕ) : Type 0 where
+  pub within : i ≤ 99
+  pub long : length out ≡ length out₀
+  pub room : at ≤ 42 * i
+  pub gives : put_text out at (credit_lines (i + 1) (drop i credits)) ≡ put_text out₀ 0 (credit_lines 1 credits)
+
+abbrev pub invariant-loop-i : goal.invariant-loop-i
+invariant-loop-i l = Due l.initial.out l.credits l.out l.at l.i
+
+abbrev pub decreases-loop-i : goal.decreases-loop-i
+decreases-loop-i l = 99 - l.i
