@@ -21,10 +21,10 @@ returns-then-effect c =
     let asked = asks (over c.args.bank.now c.args.config) c.args.store.now c.args.self.run c.args.self.power (Event.Press c.args.command) in
     let leaves = Settled c.args.store.now c.args.self effect.result in
     elim c.match-credit.branch [
-      in-Clear way ↦ subst leaves (sym way.self-is)
-    (record { power = refl; run = refl; credits = rw way.in-Clear.is refl })
-    | in_default way ↦ subst leaves (sym way.self-is)
-    (record { power = refl; run = refl; credits = sym (not-cleared _ _ effect.result.credit c.args.command (opened way.in_default.in_default-own.keys2) (rw effect.ensures asked)) })
+      | in-Clear way ↦ subst leaves (sym way.self-is)
+          (record { power = refl; run = refl; credits = rw way.in-Clear.is refl })
+      | in_default way ↦ subst leaves (sym way.self-is)
+          (record { power = refl; run = refl; credits = sym (not-cleared _ _ effect.result.credit c.args.command (opened way.in_default.in_default-own.keys2) (rw effect.ensures asked)) })
     ] in settled)) _ c.if-effect.true c.write.ensures
 
 pub returns-else-effect : goal.returns-else-effect
@@ -37,8 +37,8 @@ returns-else-effect c =
     let asked = asks (over c.args.bank.now c.args.config) c.args.store.now c.args.self.run c.args.self.power (Event.Press c.args.command) in
     let leaves = Settled c.args.store.now c.args.self effect.result in
     elim c.match-credit.branch [
-      in-Clear way ↦ subst leaves (sym way.self-is)
-    (record { power = refl; run = refl; credits = rw way.in-Clear.is refl })
-    | in_default way ↦ subst leaves (sym way.self-is)
-    (record { power = refl; run = refl; credits = sym (not-cleared _ _ effect.result.credit c.args.command (opened way.in_default.in_default-own.keys2) (rw effect.ensures asked)) })
+      | in-Clear way ↦ subst leaves (sym way.self-is)
+          (record { power = refl; run = refl; credits = rw way.in-Clear.is refl })
+      | in_default way ↦ subst leaves (sym way.self-is)
+          (record { power = refl; run = refl; credits = sym (not-cleared _ _ effect.result.credit c.args.command (opened way.in_default.in_default-own.keys2) (rw effect.ensures asked)) })
     ] in settled)) c.if-effect.false

@@ -22,12 +22,12 @@ returns-then-effect c =
     let asked = asks (over c.args.bank.now c.args.config) c.args.store.now c.args.self.run c.args.self.power (Event.Return c.args.reading) in
     let leaves = Settled c.args.store.now c.args.self effect.result in
     elim c.match-credit.branch [
-      in-Restore way ↦
-    let next : State = record { power = effect.result.power; run = effect.result.run; credits = way.credits-credits.result } in
-    let left : c.match-credit.self ≡ next = way.self-is in
-    subst leaves (sym left) (record { power = refl; run = refl; credits = rw way.in-Restore.is way.credits-credits.ensures })
-    | in_default way ↦ subst leaves (sym way.self-is)
-    (record { power = refl; run = refl; credits = sym (not-restored _ _ effect.result.credit c.args.reading (opened way.in_default.in_default-own.keys2) (rw effect.ensures asked)) })
+      | in-Restore way ↦
+          let next : State = record { power = effect.result.power; run = effect.result.run; credits = way.credits-credits.result } in
+          let left : c.match-credit.self ≡ next = way.self-is in
+          subst leaves (sym left) (record { power = refl; run = refl; credits = rw way.in-Restore.is way.credits-credits.ensures })
+      | in_default way ↦ subst leaves (sym way.self-is)
+          (record { power = refl; run = refl; credits = sym (not-restored _ _ effect.result.credit c.args.reading (opened way.in_default.in_default-own.keys2) (rw effect.ensures asked)) })
     ] in settled)) _ c.if-effect.true c.write.ensures
 
 pub returns-else-effect : goal.returns-else-effect
@@ -40,10 +40,10 @@ returns-else-effect c =
     let asked = asks (over c.args.bank.now c.args.config) c.args.store.now c.args.self.run c.args.self.power (Event.Return c.args.reading) in
     let leaves = Settled c.args.store.now c.args.self effect.result in
     elim c.match-credit.branch [
-      in-Restore way ↦
-    let next : State = record { power = effect.result.power; run = effect.result.run; credits = way.credits-credits.result } in
-    let left : c.match-credit.self ≡ next = way.self-is in
-    subst leaves (sym left) (record { power = refl; run = refl; credits = rw way.in-Restore.is way.credits-credits.ensures })
-    | in_default way ↦ subst leaves (sym way.self-is)
-    (record { power = refl; run = refl; credits = sym (not-restored _ _ effect.result.credit c.args.reading (opened way.in_default.in_default-own.keys2) (rw effect.ensures asked)) })
+      | in-Restore way ↦
+          let next : State = record { power = effect.result.power; run = effect.result.run; credits = way.credits-credits.result } in
+          let left : c.match-credit.self ≡ next = way.self-is in
+          subst leaves (sym left) (record { power = refl; run = refl; credits = rw way.in-Restore.is way.credits-credits.ensures })
+      | in_default way ↦ subst leaves (sym way.self-is)
+          (record { power = refl; run = refl; credits = sym (not-restored _ _ effect.result.credit c.args.reading (opened way.in_default.in_default-own.keys2) (rw effect.ensures asked)) })
     ] in settled)) c.if-effect.false

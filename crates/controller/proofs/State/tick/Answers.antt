@@ -25,15 +25,15 @@ returns-then-effect c =
     let asked = asks (over c.args.bank.now c.args.config) c.args.store.now c.args.self.run c.args.self.power (Event.Tick c.args.reading) in
     let leaves = Settled c.args.store.now c.args.self effect.result in
     elim c.match-credit.branch [
-      in-Cook+then-at-lt99 way ↦
-    let credits = set c.args.self.credits way.place_of-at.result way.one_more.result in
-    let next : State = record { power = effect.result.power; run = effect.result.run; credits = credits } in
-    let left : c.match-credit.self ≡ next = way.self-is in
-    subst leaves (sym left) (record { power = refl; run = refl; credits = rw (way.in-Cook.is, way.one_more.ensures, way.place_of-at.ensures) refl })
-    | in-Cook+else-at-lt99 way ↦ subst leaves (sym way.self-is)
-    (record { power = refl; run = refl; credits = rw way.in-Cook.is (sym (set_past c.args.self.credits _ _ (omega (arith, (let long : length c.args.self.credits ≡ 99 = search rules in long), way.if-at-lt99.false, way.place_of-at.ensures)))) })
-    | in_default way ↦ subst leaves (sym way.self-is)
-    (record { power = refl; run = refl; credits = sym (not-cooked _ _ effect.result.credit c.args.reading (opened way.in_default.in_default-own.keys2) (rw effect.ensures asked)) })
+      | in-Cook+then-at-lt99 way ↦
+          let credits = set c.args.self.credits way.place_of-at.result way.one_more.result in
+          let next : State = record { power = effect.result.power; run = effect.result.run; credits = credits } in
+          let left : c.match-credit.self ≡ next = way.self-is in
+          subst leaves (sym left) (record { power = refl; run = refl; credits = rw (way.in-Cook.is, way.one_more.ensures, way.place_of-at.ensures) refl })
+      | in-Cook+else-at-lt99 way ↦ subst leaves (sym way.self-is)
+          (record { power = refl; run = refl; credits = rw way.in-Cook.is (sym (set_past c.args.self.credits _ _ (omega (arith, (let long : length c.args.self.credits ≡ 99 = search rules in long), way.if-at-lt99.false, way.place_of-at.ensures)))) })
+      | in_default way ↦ subst leaves (sym way.self-is)
+          (record { power = refl; run = refl; credits = sym (not-cooked _ _ effect.result.credit c.args.reading (opened way.in_default.in_default-own.keys2) (rw effect.ensures asked)) })
     ] in settled)) _ c.if-effect.true c.write.ensures
 
 pub returns-else-effect : goal.returns-else-effect
@@ -46,13 +46,13 @@ returns-else-effect c =
     let asked = asks (over c.args.bank.now c.args.config) c.args.store.now c.args.self.run c.args.self.power (Event.Tick c.args.reading) in
     let leaves = Settled c.args.store.now c.args.self effect.result in
     elim c.match-credit.branch [
-      in-Cook+then-at-lt99 way ↦
-    let credits = set c.args.self.credits way.place_of-at.result way.one_more.result in
-    let next : State = record { power = effect.result.power; run = effect.result.run; credits = credits } in
-    let left : c.match-credit.self ≡ next = way.self-is in
-    subst leaves (sym left) (record { power = refl; run = refl; credits = rw (way.in-Cook.is, way.one_more.ensures, way.place_of-at.ensures) refl })
-    | in-Cook+else-at-lt99 way ↦ subst leaves (sym way.self-is)
-    (record { power = refl; run = refl; credits = rw way.in-Cook.is (sym (set_past c.args.self.credits _ _ (omega (arith, (let long : length c.args.self.credits ≡ 99 = search rules in long), way.if-at-lt99.false, way.place_of-at.ensures)))) })
-    | in_default way ↦ subst leaves (sym way.self-is)
-    (record { power = refl; run = refl; credits = sym (not-cooked _ _ effect.result.credit c.args.reading (opened way.in_default.in_default-own.keys2) (rw effect.ensures asked)) })
+      | in-Cook+then-at-lt99 way ↦
+          let credits = set c.args.self.credits way.place_of-at.result way.one_more.result in
+          let next : State = record { power = effect.result.power; run = effect.result.run; credits = credits } in
+          let left : c.match-credit.self ≡ next = way.self-is in
+          subst leaves (sym left) (record { power = refl; run = refl; credits = rw (way.in-Cook.is, way.one_more.ensures, way.place_of-at.ensures) refl })
+      | in-Cook+else-at-lt99 way ↦ subst leaves (sym way.self-is)
+          (record { power = refl; run = refl; credits = rw way.in-Cook.is (sym (set_past c.args.self.credits _ _ (omega (arith, (let long : length c.args.self.credits ≡ 99 = search rules in long), way.if-at-lt99.false, way.place_of-at.ensures)))) })
+      | in_default way ↦ subst leaves (sym way.self-is)
+          (record { power = refl; run = refl; credits = sym (not-cooked _ _ effect.result.credit c.args.reading (opened way.in_default.in_default-own.keys2) (rw effect.ensures asked)) })
     ] in settled)) c.if-effect.false

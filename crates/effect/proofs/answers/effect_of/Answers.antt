@@ -32,7 +32,7 @@ returns c =
           let keeps = c.keeps in
           let idle = c.idle-idle in
           elim c.if-not-keeps.branch [
-              then-not-keeps w ↦ w.alarms-is ∙ w.alarms_by-alarms.ensures ∙ rw w.by_parts.ensures (moved-alarms accepted idle.result _ _ _ start.event _ _ _ (sym keeps.ensures ∙ w.if-not-keeps.true))
+            | then-not-keeps w ↦ w.alarms-is ∙ w.alarms_by-alarms.ensures ∙ rw w.by_parts.ensures (moved-alarms accepted idle.result _ _ _ start.event _ _ _ (sym keeps.ensures ∙ w.if-not-keeps.true))
             | else-not-keeps w ↦ w.alarms-is ∙ kept-alarms accepted idle.result _ _ _ start.event _ _ _ idle.ensures (sym keeps.ensures ∙ w.if-not-keeps.false)
           ] in alarms-are),
       there,

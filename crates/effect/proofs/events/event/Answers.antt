@@ -133,8 +133,8 @@ returns c =
     c.if-is_return.bounded ≡ bounded_for args.config args.store.now args.event = let args = c.args in
     let is-return = c.is_return in
     elim c.if-is_return.branch [
-              then-is_return w ↦ w.bounded-is ∙ w.is_bounded-bounded.ensures ∙ return-bounded args.config args.store.now args.event (sym is-return.ensures ∙ w.if-is_return.true)
-            | else-is_return w ↦ w.bounded-is ∙ other-bounded args.config args.store.now args.event (sym is-return.ensures ∙ w.if-is_return.false)
-          ] in bounded-is))
+      | then-is_return w ↦ w.bounded-is ∙ w.is_bounded-bounded.ensures ∙ return-bounded args.config args.store.now args.event (sym is-return.ensures ∙ w.if-is_return.true)
+      | else-is_return w ↦ w.bounded-is ∙ other-bounded args.config args.store.now args.event (sym is-return.ensures ∙ w.if-is_return.false)
+    ] in bounded-is))
     ∙ sym (event-known setup a.store.now a.power a.run a.event ((let ok : found_in c.args.bank.now ≡ Checked.Accepted = let found = c.check-found in
     sym (numbers-tell found.result (found_in c.args.bank.now) found.ensures) ∙ c.in-Accepted.is in ok)))

@@ -99,7 +99,7 @@ returns-then-done c =
           let event = c.in-Of.event in
           let is-return = c.is_return in
           elim c.if-is_return.branch [
-              then-is_return w ↦ w.fits-is ∙ w.is_bounded-fits.ensures ∙ return-bounded args.config args.store.now event (sym is-return.ensures ∙ w.if-is_return.true)
+            | then-is_return w ↦ w.fits-is ∙ w.is_bounded-fits.ensures ∙ return-bounded args.config args.store.now event (sym is-return.ensures ∙ w.if-is_return.true)
             | else-is_return w ↦ w.fits-is ∙ other-bounded args.config args.store.now event (sym is-return.ensures ∙ w.if-is_return.false)
           ] in bounded-is))) in
           one-turn setup a.moved a.credits.now a.store.now c.requires.stands event (to by_parts.result) does c.if-not-keeps.alarms
@@ -113,7 +113,7 @@ returns-then-done c =
           let event = c.in-Of.event in
           let keeps = c.keeps in
           elim c.if-not-keeps.branch [
-              then-not-keeps w ↦ w.alarms-is ∙ w.alarms_by-alarms.ensures ∙ rw w.by_parts.ensures (moved-alarms accepted idle _ _ _ event _ _ _ (sym keeps.ensures ∙ w.if-not-keeps.true))
+            | then-not-keeps w ↦ w.alarms-is ∙ w.alarms_by-alarms.ensures ∙ rw w.by_parts.ensures (moved-alarms accepted idle _ _ _ event _ _ _ (sym keeps.ensures ∙ w.if-not-keeps.true))
             | else-not-keeps w ↦ w.alarms-is ∙ kept-alarms accepted idle _ _ _ event _ _ _ c.requires.idle-is (sym keeps.ensures ∙ w.if-not-keeps.false)
           ] in alarms-are)) (said_in setup by_parts.result.position known-there) credits written gains saves in moved_on) _ _ (settle.ensures ∙ rw credit-after.ensures) (rw (saving.true, c.write.ensures, whole)));
       told = record {
@@ -164,7 +164,7 @@ returns-else-done c =
           let event = c.in-Of.event in
           let is-return = c.is_return in
           elim c.if-is_return.branch [
-              then-is_return w ↦ w.fits-is ∙ w.is_bounded-fits.ensures ∙ return-bounded args.config args.store.now event (sym is-return.ensures ∙ w.if-is_return.true)
+            | then-is_return w ↦ w.fits-is ∙ w.is_bounded-fits.ensures ∙ return-bounded args.config args.store.now event (sym is-return.ensures ∙ w.if-is_return.true)
             | else-is_return w ↦ w.fits-is ∙ other-bounded args.config args.store.now event (sym is-return.ensures ∙ w.if-is_return.false)
           ] in bounded-is))) in
           one-turn setup a.moved a.credits.now a.store.now c.requires.stands event (to by_parts.result) does c.if-not-keeps.alarms
@@ -178,7 +178,7 @@ returns-else-done c =
           let event = c.in-Of.event in
           let keeps = c.keeps in
           elim c.if-not-keeps.branch [
-              then-not-keeps w ↦ w.alarms-is ∙ w.alarms_by-alarms.ensures ∙ rw w.by_parts.ensures (moved-alarms accepted idle _ _ _ event _ _ _ (sym keeps.ensures ∙ w.if-not-keeps.true))
+            | then-not-keeps w ↦ w.alarms-is ∙ w.alarms_by-alarms.ensures ∙ rw w.by_parts.ensures (moved-alarms accepted idle _ _ _ event _ _ _ (sym keeps.ensures ∙ w.if-not-keeps.true))
             | else-not-keeps w ↦ w.alarms-is ∙ kept-alarms accepted idle _ _ _ event _ _ _ c.requires.idle-is (sym keeps.ensures ∙ w.if-not-keeps.false)
           ] in alarms-are)) (said_in setup by_parts.result.position known-there) credits written gains saves in moved_on) _ _ (c.settle.ensures ∙ rw credit-after.ensures) (rw c.if-done.false));
       told = record {
