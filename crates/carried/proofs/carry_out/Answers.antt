@@ -17,7 +17,6 @@ use Rattle.calls.specs.Carried.{state_size, rest_from, state_bytes, after_carrie
 use Rattle.calls.proofs.Written.{credits-behind, long-credited, written, record-part}
 use Rattle.carried.specs.Bytes.{rest_bytes, retained_bytes}
 use Rattle.carried.proofs.Number.{as_byte}
-use borrow.Author.Rules.{rules}
 use Rattle.carried.proofs.carry_out.Goals as goal
 
 -- the state that is left

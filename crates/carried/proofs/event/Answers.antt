@@ -6,14 +6,13 @@ use borrow.Author.Tests.{not-true, not-false}
 use lib.ListN.{drop}
 use Rattle.plain.specs.declared.Effect.{Effect}
 use Rattle.plain.specs.Record.{credits_in}
-use Rattle.plain.specs.Setup.{Setup, over}
+use Rattle.plain.specs.Setup.{over}
 use Rattle.plain.specs.Answer.{is_accepted}
 use Rattle.plain.specs.Event.{applied}
 use Rattle.plain.proofs.Cases.{is-refused}
 use Rattle.plain.proofs.Effects.{saves-sized}
 use Rattle.calls.specs.Carried.{state_in, is_state, after_carried}
 use Rattle.calls.proofs.Written.{is_bank, not-bank, carried, effect_on, state-long, bank-first, no-state, refused-event, accepted-event}
-use borrow.Author.Rules.{rules}
 use Rattle.carried.proofs.event.Goals as goal
 use borrow.Enum.Refused.{opened}
 

@@ -17,7 +17,6 @@ use Rattle.calls.specs.Carried.{state_size, roomy, carried_out}
 use Rattle.calls.proofs.Written.{make-bank-first, make-no-room, make-left}
 use Rattle.controller.specs.Holds.{after}
 use mathlib.Core.Bool.{true, false}
-use borrow.Author.Rules.{rules}
 use Rattle.carried.proofs.make.Goals as goal
 use borrow.Enum.Refused.{opened}
 

@@ -13,7 +13,6 @@ use Rattle.plain.specs.Setup.{over}
 use Rattle.plain.specs.Listed.{formed}
 use Rattle.calls.proofs.Meets.{no-list, no_room, no_record_lem, no-setting}
 use Rattle.carried_list.proofs.Laws.{has_room, lacks-room, has-record, lacks-record, refused-bank, wrong-setting}
-use borrow.Author.Rules.{rules}
 use Rattle.carried_list.proofs.misfit.Goals as goal
 use borrow.Enum.Refused.{opened}
 

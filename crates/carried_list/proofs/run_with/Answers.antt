@@ -8,7 +8,6 @@ use Rattle.calls.specs.Calls.{fitting}
 use Rattle.calls.proofs.Written.{is_bank, not-bank}
 use Rattle.calls.proofs.Replies.{reply-none, reply-bank, reply-run}
 use Rattle.carried_list.proofs.Laws.{fitting-is, fits_all}
-use borrow.Author.Rules.{rules}
 use Rattle.carried_list.proofs.run_with.Goals as goal
 use borrow.Enum.Refused.{opened}
 

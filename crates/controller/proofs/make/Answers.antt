@@ -1,5 +1,4 @@
 -- `controller::make` meets its contract. Assumes nothing.
-use borrow.Author.Rules.{rules}
 use Rattle.controller.proofs.make.Goals as goal
 
 pub returns : goal.returns

@@ -1,6 +1,5 @@
 -- `credit_lines::credits` meets its contract.
 -- Assumes nothing.
-use borrow.Author.Rules.{rules}
 use borrow.Author.Tests.{lt-leb, le-leb}
 use Rattle.line.specs.Part.{credits_of}
 use Rattle.credit_lines.proofs.credits.Goals as goal

@@ -3,7 +3,6 @@
 use mathlib.Core.List.{[], ◌∷◌, append-nil}
 use mathlib.Core.Path.{refl}
 use native.Mathlib.Omega.{arith}
-use borrow.Author.Rules.{rules}
 use borrow.Author.Tests.{eq-eqb, ne_eqb}
 use lib.IntN.{pos}
 use Rattle.decimal.proofs.Laws.{put_is}

@@ -1,7 +1,7 @@
 -- `credit_lines::put_credits` meets its contract. The invariant: the lines of the steps that are left, stored where they are due, give the whole, and
 -- there is room for them. Assumes nothing.
-use Prim.Native.Nat.{ℕ, ◌+◌, ◌*◌, ◌-◌, ◌≤◌}
-use mathlib.Core.List.{List, [], ◌∷◌}
+use Prim.Native.Nat.{◌+◌}
+use mathlib.Core.List.{[], ◌∷◌}
 use mathlib.Core.Path.{◌≡◌, refl, sym, ap, ◌∙◌}
 use native.Mathlib.Omega.{arith}
 use borrow.Author.Rules.{rules}
@@ -11,7 +11,6 @@ use Rattle.decimal.proofs.Laws.{put_is, end_is}
 use Rattle.line.specs.Sheet.{credit_lines}
 use Rattle.line.proofs.Laws.{length-credits}
 use Rattle.credit_lines.proofs.Turn.{credits-turn}
-use Rattle.credit_lines.proofs.put_credits.Invariants.{Due}
 use Rattle.credit_lines.proofs.put_credits.Goals as goal
 
 pub loop-i-init : goal.loop-i-init

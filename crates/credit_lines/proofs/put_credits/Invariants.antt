@@ -1,16 +1,11 @@
 -- `credit_lines::put_credits` meets its contract. The invariant: the lines of the steps that are left, stored where they are due, give the whole, and
 -- there is room for them. Assumes nothing.
 use Prim.Native.Nat.{ℕ, ◌+◌, ◌*◌, ◌-◌, ◌≤◌}
-use mathlib.Core.List.{List, [], ◌∷◌}
-use mathlib.Core.Path.{◌≡◌, refl, sym, ap, ◌∙◌}
-use native.Mathlib.Omega.{arith}
-use borrow.Author.Rules.{rules}
-use lib.ListN.{length, drop, get_or, drop_of_length-le}
+use mathlib.Core.List.{List}
+use mathlib.Core.Path.{◌≡◌}
+use lib.ListN.{length, drop}
 use Rattle.decimal.specs.Text.{put_text}
-use Rattle.decimal.proofs.Laws.{put_is, end_is}
 use Rattle.line.specs.Sheet.{credit_lines}
-use Rattle.line.proofs.Laws.{length-credits}
-use Rattle.credit_lines.proofs.Turn.{credits-turn}
 use Rattle.credit_lines.proofs.put_credits.Given as goal
 
 pub record Due (out₀ credits out : List ℕ) (at i : ℕ) : Type 0 where

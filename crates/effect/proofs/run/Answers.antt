@@ -6,7 +6,6 @@ use Rattle.plain.specs.Listed.{events_in}
 use Rattle.plain.specs.Event.{After, events_from, final}
 use Rattle.plain.specs.Answer.{is_accepted}
 use Rattle.plain.specs.Setup.{over}
-use borrow.Author.Rules.{rules}
 use Rattle.effect.proofs.Walk.{made-stands}
 use Rattle.effect.proofs.run.Goals as goal
 use borrow.Enum.Refused.{opened}

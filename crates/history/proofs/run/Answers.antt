@@ -9,7 +9,6 @@ use Rattle.plain.specs.Listed.{formed}
 use Rattle.plain.specs.Event.{dark}
 use Rattle.demand.specs.Run.{after_run, given}
 use Rattle.demand.proofs.Run.{no-form, ran, run-demand}
-use borrow.Author.Rules.{rules}
 use Rattle.history.proofs.run.Goals as goal
 
 pub returns-then-not-is_list : goal.returns-then-not-is_list

@@ -2,7 +2,6 @@
 use mathlib.Core.Path.{ap, ◌∙◌}
 use Rattle.calls.specs.Result.{packed}
 use Rattle.calls.specs.Calls.{check_result}
-use borrow.Author.Rules.{rules}
 use Rattle.host.proofs.cook_check.Goals as goal
 
 pub returns : goal.returns

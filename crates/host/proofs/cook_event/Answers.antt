@@ -9,7 +9,6 @@ use Rattle.plain.specs.Listed.{event_of_kind}
 use Rattle.calls.specs.Config.{config_in}
 use Rattle.calls.specs.Calls.{asked_over, event_leaves}
 use Rattle.host.proofs.Laws.{answered, with-config, no-config}
-use borrow.Author.Rules.{rules}
 use Rattle.host.proofs.cook_event.Goals as goal
 
 pub returns-then-config-ne-SIZE : goal.returns-then-config-ne-SIZE

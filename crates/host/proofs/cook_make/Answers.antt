@@ -6,7 +6,6 @@ use Rattle.plain.specs.Setup.{over}
 use Rattle.calls.specs.Carried.{after_carried, make_carried}
 use Rattle.calls.specs.Calls.{make_over, make_leaves}
 use Rattle.host.proofs.Laws.{answered, with-config, no-config}
-use borrow.Author.Rules.{rules}
 use Rattle.host.proofs.cook_make.Goals as goal
 
 pub returns-then-config-ne-SIZE : goal.returns-then-config-ne-SIZE

@@ -6,7 +6,6 @@ use Rattle.plain.specs.Setup.{over}
 use Rattle.calls.specs.Config.{config_in}
 use Rattle.calls.specs.Calls.{run_over, run_leaves}
 use Rattle.host.proofs.Laws.{with-config, no-config, run-left}
-use borrow.Author.Rules.{rules}
 use Rattle.host.proofs.cook_run.Goals as goal
 
 pub returns-then-config-ne-SIZE : goal.returns-then-config-ne-SIZE

@@ -5,7 +5,6 @@ use Rattle.arrays.specs.Write.{After as Wrote}
 use Rattle.position.specs.Tests.{both}
 use Rattle.calls.specs.Result.{packed}
 use Rattle.calls.specs.Calls.{AfterWrite, writable, write_leaves}
-use borrow.Author.Rules.{rules}
 use Rattle.host.proofs.cook_write.Goals as goal
 
 -- what writing leaves, of what the writer leaves

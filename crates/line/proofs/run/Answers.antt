@@ -1,19 +1,15 @@
 -- `line::run` meets its contract. The invariant: what stands is what the bytes so far leave, and their text has at most 168 bytes each.
 -- Assumes nothing.
-use Prim.Native.Nat.{ℕ, ◌*◌, ◌-◌, ◌≤◌}
+use Prim.Native.Nat.{ℕ, ◌*◌}
 use mathlib.Core.List.{List}
 use mathlib.Core.Path.{◌≡◌, refl, sym, ap, ◌∙◌}
 use native.Mathlib.Omega.{arith}
 use borrow.Author.Tests.{lt-leb, le-leb}
 use lib.ListN.{length, take, get_or}
 use lib.Seq.{take_all}
-use Rattle.plain.specs.Setup.{Setup}
 use Rattle.line.specs.Beside.{sheet_over}
-use Rattle.line.specs.declared.Between.{Between}
-use Rattle.line.specs.declared.Ran.{Ran}
-use Rattle.line.specs.Part.{Sheet, part_of, After, after, found, leaving, run_of}
+use Rattle.line.specs.Part.{Sheet, part_of, After, found, leaving, run_of}
 use Rattle.line.proofs.Laws.{byte-leaves, part-more, length-byte}
-use Rattle.line.proofs.run.Invariants.{Taken}
 use Rattle.line.proofs.run.Goals as goal
 
 pub returns-then-out-input : goal.returns-then-out-input

@@ -2,17 +2,13 @@
 -- Assumes nothing.
 use Prim.Native.Nat.{ℕ, ◌*◌, ◌-◌, ◌≤◌}
 use mathlib.Core.List.{List}
-use mathlib.Core.Path.{◌≡◌, refl, sym, ap, ◌∙◌}
-use native.Mathlib.Omega.{arith}
-use borrow.Author.Tests.{lt-leb, le-leb}
-use lib.ListN.{length, take, get_or}
-use lib.Seq.{take_all}
+use mathlib.Core.Path.{◌≡◌}
+use lib.ListN.{length, take}
 use Rattle.plain.specs.Setup.{Setup}
 use Rattle.line.specs.Beside.{sheet_over}
 use Rattle.line.specs.declared.Between.{Between}
 use Rattle.line.specs.declared.Ran.{Ran}
-use Rattle.line.specs.Part.{Sheet, part_of, After, after, found, leaving, run_of}
-use Rattle.line.proofs.Laws.{byte-leaves, part-more, length-byte}
+use Rattle.line.specs.Part.{part_of, after, found, leaving}
 use Rattle.line.proofs.run.Given as goal
 
 pub record Taken (setup : Setup) (store₀ input out₀ : List ℕ) (between : Between) (store out : List ℕ) (ran : Ran) (i : ℕ) : Type 0 where

@@ -2,7 +2,6 @@
 -- Assumes nothing.
 use mathlib.Core.List.{[]}
 use mathlib.Core.Path.{refl, sym, ap, ◌∙◌}
-use borrow.Author.Rules.{rules}
 use Rattle.setting.specs.Found.{is_accepted}
 use Rattle.setting.proofs.Laws.{is-refused, accepted, unless-refused, unless-accepted, numbers-tell}
 use Rattle.bank.specs.Check.{found_in}

@@ -1,5 +1,4 @@
 -- One turn behind the others.
-use Rattle.std.proofs.Common.{◌≡◌, true, false}
 use Rattle.std.proofs.lemmas.Bool.{not-false}
 use Rattle.line.specs.Beside.{sheet_over}
 use Rattle.terminal.proofs.Laws.{no_part, part-part, part_end}

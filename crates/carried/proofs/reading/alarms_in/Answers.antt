@@ -3,7 +3,6 @@
 use mathlib.Core.Path.{ap, ◌∙◌}
 use Rattle.plain.specs.Record.{alarms_in}
 use Rattle.carried.proofs.Behind.{none_left, all-behind}
-use borrow.Author.Rules.{rules}
 use Rattle.carried.proofs.reading.alarms_in.Goals as goal
 
 pub returns-then-bytes-lt1 : goal.returns-then-bytes-lt1

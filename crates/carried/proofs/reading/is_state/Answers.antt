@@ -7,7 +7,6 @@ use Rattle.field.specs.Row.{total}
 use Rattle.position.specs.Tests.{both}
 use Rattle.plain.specs.Record.{credit_widths, widths_of}
 use Rattle.calls.specs.Carried.{state_size, is_state, roomy, bits_right}
-use borrow.Author.Rules.{rules}
 use Rattle.carried.proofs.reading.is_state.Goals as goal
 
 pub returns-then-bytes-ne-SIZE : goal.returns-then-bytes-ne-SIZE

@@ -3,7 +3,6 @@
 use Rattle.plain.specs.Record.{credit_widths, widths_of}
 use Rattle.field.specs.Row.{total}
 use Rattle.calls.specs.Carried.{state_in}
-use borrow.Author.Rules.{rules}
 use Rattle.carried.proofs.reading.run_in.Goals as goal
 
 pub returns : goal.returns

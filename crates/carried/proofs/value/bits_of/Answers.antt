@@ -1,6 +1,5 @@
 -- `carried::value::bits_of` meets its contract. Assumes nothing.
 use Rattle.calls.specs.Carried.{bits_of}
-use borrow.Author.Rules.{rules}
 use Rattle.carried.proofs.value.bits_of.Goals as goal
 
 pub returns-in-NoReading : goal.returns-in-NoReading

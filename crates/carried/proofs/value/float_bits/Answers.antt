@@ -1,7 +1,6 @@
 -- `carried::value::float_bits` meets its contract. Assumes nothing.
 use Rattle.carried.proofs.Number.{nan_differs, no_nan}
 use lib.Ieee.{to_bits}
-use borrow.Author.Rules.{rules}
 use Rattle.carried.proofs.value.float_bits.Goals as goal
 
 pub returns-then-y : goal.returns-then-y

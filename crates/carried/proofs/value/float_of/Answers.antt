@@ -4,7 +4,6 @@ use lib.Ieee.{div, of_bits}
 use lib.Ieee.Bits.{nan_bits_is}
 use mathlib.Core.Path.{sym, ◌∙◌}
 use lib.Ieee.{binary64}
-use borrow.Author.Rules.{rules}
 use Rattle.carried.proofs.value.float_of.Goals as goal
 
 pub returns-then-is_nan : goal.returns-then-is_nan

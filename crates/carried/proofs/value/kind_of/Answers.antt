@@ -1,7 +1,6 @@
 -- `carried::value::kind_of` meets its contract. Assumes nothing.
 use mathlib.Core.Path.{refl}
 use Rattle.calls.specs.Carried.{kind_of}
-use borrow.Author.Rules.{rules}
 use Rattle.carried.proofs.value.kind_of.Goals as goal
 
 pub returns-in-NoReading : goal.returns-in-NoReading

@@ -1,7 +1,6 @@
 -- `carried::value::measured_as` meets its contract. Assumes nothing.
 use Rattle.calls.specs.Carried.{measured_as}
 use borrow.Author.Tests.{ne_eqb}
-use borrow.Author.Rules.{rules}
 use Rattle.carried.proofs.value.measured_as.Goals as goal
 
 pub returns-in-1 : goal.returns-in-1

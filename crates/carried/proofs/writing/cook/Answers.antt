@@ -1,14 +1,12 @@
 -- `carried::writing::cook` meets its contract.
 -- Assumes nothing.
-use Prim.Native.Nat.{ℕ, ◌+◌, ◌*◌, ◌-◌, ◌<◌, ◌≤◌}
-use mathlib.Core.Path.{◌≡◌, sym, ap, ◌∙◌}
+use Prim.Native.Nat.{◌-◌, ◌<◌, ◌≤◌}
+use mathlib.Core.Path.{sym, ◌∙◌}
 use native.Mathlib.Omega.{arith}
-use Rattle.field.specs.Field.{field}
 use Rattle.field.specs.Row.{total}
 use Rattle.field.proofs.Laws.{Bytes, stored-fits}
 use Rattle.plain.specs.Record.{credit_widths, widths_of}
 use Rattle.calls.proofs.Written.{credit-there, cooks, cooks-none}
-use borrow.Author.Rules.{rules}
 use Rattle.carried.proofs.writing.cook.Goals as goal
 
 pub returns-then-place-ge99 : goal.returns-then-place-ge99

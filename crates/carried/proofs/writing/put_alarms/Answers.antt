@@ -7,7 +7,6 @@ use Rattle.field.specs.Row.{total}
 use Rattle.field.proofs.Rows.{stored_row_lem}
 use Rattle.alarm.specs.Part.{alarm_widths, alarm_numbers}
 use Rattle.plain.specs.Record.{credit_widths, widths_of, alarms_from}
-use borrow.Author.Rules.{rules}
 use Rattle.carried.proofs.writing.put_alarms.Goals as goal
 
 pub returns : goal.returns

@@ -5,7 +5,6 @@ use native.Mathlib.Omega.{arith}
 use Rattle.field.specs.Row.{total}
 use Rattle.field.proofs.Rows.{stored_row_lem}
 use Rattle.plain.specs.Record.{credit_widths, widths_of, position_widths, position_numbers}
-use borrow.Author.Rules.{rules}
 use Rattle.carried.proofs.writing.put_position.Goals as goal
 
 pub returns : goal.returns

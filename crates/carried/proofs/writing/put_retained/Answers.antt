@@ -5,7 +5,6 @@ use lib.ListN.{length}
 use lib.Seq.{length-sets}
 use Rattle.plain.specs.Run.{credited}
 use Rattle.calls.proofs.Written.{keep-put, cook-put}
-use borrow.Author.Rules.{rules}
 use Rattle.carried.proofs.writing.put_retained.Goals as goal
 
 pub put_alarms-requires : goal.put_alarms-requires

@@ -1,12 +1,10 @@
 -- `controller::State::command` meets its contract. Assumes nothing.
 use mathlib.Core.Path.{refl, sym, subst}
-use mathlib.Core.Logic.{⊎_elim}
 use Rattle.plain.specs.declared.Event.{Event}
 use Rattle.plain.specs.Setup.{over}
 use Rattle.plain.specs.Run.{credited}
 use Rattle.plain.proofs.Effects.{asks}
 use Rattle.controller.proofs.Laws.{not-cleared, Settled, saved, not_saved}
-use borrow.Author.Rules.{rules}
 use borrow.Enum.Refused.{opened}
 use Rattle.controller.proofs.State.command.Goals as goal
 use Rattle.controller.proofs.State.command.Goals.{in-Clear, in_default}

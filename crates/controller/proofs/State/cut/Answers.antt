@@ -7,7 +7,6 @@ use Rattle.plain.specs.Setup.{over}
 use Rattle.plain.specs.Run.{credited}
 use Rattle.plain.proofs.Effects.{asks, cut-saves}
 use Rattle.controller.proofs.Laws.{not-cut, not_saved}
-use borrow.Author.Rules.{rules}
 use Rattle.controller.proofs.State.cut.Goals as goal
 use borrow.Enum.Refused.{opened}
 

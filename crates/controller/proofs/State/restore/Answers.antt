@@ -1,13 +1,11 @@
 -- `controller::State::restore` meets its contract. Assumes nothing.
 use mathlib.Core.Path.{◌≡◌, refl, sym, subst}
-use mathlib.Core.Logic.{⊎_elim}
 use Rattle.plain.specs.declared.Event.{Event}
 use Rattle.plain.specs.Setup.{over}
 use Rattle.plain.specs.Run.{credited}
 use Rattle.plain.proofs.Effects.{asks}
 use Rattle.controller.specs.declared.State.{State}
 use Rattle.controller.proofs.Laws.{not-restored, Settled, saved, not_saved}
-use borrow.Author.Rules.{rules}
 use borrow.Enum.Refused.{opened}
 use Rattle.controller.proofs.State.restore.Goals as goal
 use Rattle.controller.proofs.State.restore.Goals.{in-Restore, in_default}

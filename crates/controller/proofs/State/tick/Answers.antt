@@ -1,6 +1,5 @@
 -- `controller::State::tick` meets its contract. Assumes nothing.
 use mathlib.Core.Path.{◌≡◌, refl, sym, subst}
-use mathlib.Core.Logic.{⊎_elim}
 use native.Mathlib.Omega.{arith}
 use lib.ListN.{length, set}
 use Rattle.plain.specs.declared.Event.{Event}

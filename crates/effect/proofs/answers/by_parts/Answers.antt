@@ -1,5 +1,4 @@
 -- `effect::answers::by_parts` meets its contract. Assumes nothing.
-use borrow.Author.Rules.{rules}
 use Rattle.effect.proofs.answers.by_parts.Goals as goal
 
 pub returns : goal.returns

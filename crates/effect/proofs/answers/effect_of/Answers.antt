@@ -1,14 +1,11 @@
 -- `effect::answers::effect_of` meets its contract.
 -- Assumes nothing.
 use mathlib.Core.Path.{◌≡◌, sym, ◌∙◌}
-use mathlib.Core.Logic.{⊎_elim}
 use Rattle.position.specs.Program.{said_at}
 use Rattle.position.proofs.After.{after-said}
 use Rattle.plain.specs.Setup.{here_in}
 use Rattle.effect.specs.Done.{alarms_if}
-use borrow.Author.Tests.{not-true, not-false}
 use Rattle.effect.proofs.Laws.{kept-alarms, moved-alarms}
-use borrow.Author.Rules.{rules}
 use Rattle.effect.proofs.answers.effect_of.Goals as goal
 use Rattle.effect.proofs.answers.effect_of.Goals.{then-not-keeps, else-not-keeps}
 

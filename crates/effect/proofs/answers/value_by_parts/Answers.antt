@@ -1,5 +1,4 @@
 -- `effect::answers::value_by_parts` meets its contract. Assumes nothing.
-use borrow.Author.Rules.{rules}
 use Rattle.effect.proofs.answers.value_by_parts.Goals as goal
 
 pub returns-in-NoReading : goal.returns-in-NoReading

@@ -4,7 +4,6 @@ use mathlib.Core.Bool.{cond}
 use Rattle.position.specs.Command.{is_start}
 use Rattle.alarm.specs.Alarm.{all_clear}
 use Rattle.plain.specs.Record.{alarms_in}
-use borrow.Author.Rules.{rules}
 use Rattle.effect.proofs.beside.alarms_by.Goals as goal
 
 pub returns-in-Tick : goal.returns-in-Tick

@@ -2,7 +2,6 @@
 use mathlib.Core.Path.{◌∙◌}
 use Rattle.position.specs.Command.{is_start}
 use Rattle.effect.proofs.Laws.{no_start}
-use borrow.Author.Rules.{rules}
 use Rattle.effect.proofs.beside.cleared_by.Goals as goal
 use borrow.Enum.Refused.{opened}
 

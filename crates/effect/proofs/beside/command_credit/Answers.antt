@@ -1,7 +1,6 @@
 -- `effect::beside::command_credit` meets its contract. Assumes nothing.
 use Rattle.position.specs.Command.{is_start}
 use Rattle.effect.proofs.Laws.{no_start}
-use borrow.Author.Rules.{rules}
 use Rattle.effect.proofs.beside.command_credit.Goals as goal
 use borrow.Enum.Refused.{opened}
 

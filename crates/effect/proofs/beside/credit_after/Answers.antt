@@ -1,6 +1,5 @@
 -- `effect::beside::credit_after` meets its contract. Assumes nothing.
 use borrow.Author.Tests.{not-true, not-false}
-use borrow.Author.Rules.{rules}
 use Rattle.effect.proofs.beside.credit_after.Goals as goal
 
 pub returns-then-not-accepted : goal.returns-then-not-accepted

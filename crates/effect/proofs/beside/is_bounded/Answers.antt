@@ -1,6 +1,5 @@
 -- `effect::beside::is_bounded` meets its contract.
 -- Assumes nothing.
-use borrow.Author.Rules.{rules}
 use Rattle.effect.proofs.beside.is_bounded.Goals as goal
 
 pub returns : goal.returns

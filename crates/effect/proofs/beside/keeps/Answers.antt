@@ -1,7 +1,5 @@
 -- `effect::beside::keeps` meets its contract.
 -- Assumes nothing.
-use mathlib.Core.Path.{◌≡◌}
-use borrow.Author.Rules.{rules}
 use Rattle.effect.proofs.beside.keeps.Goals as goal
 
 pub returns-in-Tick : goal.returns-in-Tick

@@ -3,7 +3,6 @@ use mathlib.Core.Path.{sym}
 use native.Mathlib.Omega.{arith}
 use Rattle.plain.specs.Run.{cooked, credited}
 use Rattle.effect.proofs.Laws.{set_past}
-use borrow.Author.Rules.{rules}
 use Rattle.effect.proofs.credits.settle.Goals as goal
 
 pub returns-in-Keep : goal.returns-in-Keep

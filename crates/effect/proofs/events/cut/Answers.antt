@@ -4,7 +4,6 @@ use Rattle.plain.specs.declared.Event.{Event}
 use Rattle.plain.specs.Event.{dark_run, cut_effect}
 use Rattle.effect.specs.Done.{with_alarms, effect_of}
 use Rattle.effect.proofs.Rows.{cut_off, cut_on}
-use borrow.Author.Rules.{rules}
 use Rattle.effect.proofs.events.cut.Goals as goal
 
 pub returns-then-not-power : goal.returns-then-not-power

@@ -14,8 +14,6 @@ use Rattle.effect.specs.Known.{Known, Ready}
 use Rattle.effect.specs.Done.{progress_of, DoesOver, bounded_for}
 use Rattle.effect.proofs.Rows.{event-bank, event-unsound, event-buffer, event-setting, event-known}
 use Rattle.effect.proofs.Laws.{said_in, unsound, sound-state, few, return-bounded, other-bounded}
-use mathlib.Core.Logic.{⊎_elim}
-use borrow.Author.Rules.{rules}
 use Rattle.effect.proofs.events.event.Goals as goal
 use Rattle.effect.proofs.events.event.Goals.{then-is_return, else-is_return}
 use borrow.Enum.Refused.{opened}

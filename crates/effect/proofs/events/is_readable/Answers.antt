@@ -1,9 +1,8 @@
 -- `effect::events::is_readable` meets its contract. Assumes nothing.
 use mathlib.Core.Path.{sym, ◌∙◌}
 use Rattle.position.proofs.Tests.{both-and, both-on}
-use Rattle.position.specs.Tests.{all, both}
+use Rattle.position.specs.Tests.{all}
 use Rattle.alarm.proofs.Short.{clear_within}
-use borrow.Author.Rules.{rules}
 use Rattle.effect.proofs.events.is_readable.Goals as goal
 
 pub returns-then-are_clear : goal.returns-then-are_clear

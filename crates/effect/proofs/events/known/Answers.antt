@@ -3,7 +3,6 @@ use mathlib.Core.Path.{subst}
 use Rattle.plain.specs.declared.Event.{Event}
 use Rattle.effect.specs.declared.Progress.{Progress}
 use Rattle.effect.specs.Done.{Does, DoesPress, DoesCut, DoesReturn}
-use borrow.Author.Rules.{rules}
 use Rattle.effect.proofs.events.known.Goals as goal
 
 pub tick-requires : goal.tick-requires

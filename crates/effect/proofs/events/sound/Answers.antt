@@ -2,7 +2,6 @@
 use Rattle.position.proofs.Tests.{both-and, both-on}
 use Rattle.position.specs.Tests.{all}
 use Rattle.plain.specs.Run.{sound_by}
-use borrow.Author.Rules.{rules}
 use Rattle.effect.proofs.events.sound.Goals as goal
 
 pub returns : goal.returns

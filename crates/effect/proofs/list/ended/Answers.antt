@@ -1,5 +1,4 @@
 -- `effect::list::ended` meets its contract. Assumes nothing.
-use borrow.Author.Rules.{rules}
 use Rattle.effect.proofs.list.ended.Goals as goal
 
 pub returns : goal.returns

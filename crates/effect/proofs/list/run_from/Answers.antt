@@ -5,7 +5,6 @@ use mathlib.Core.Bool.{true}
 use mathlib.Core.List.{[], ◌∷◌}
 use native.Mathlib.Omega.{arith}
 use borrow.Author.Tests.{eqb-true}
-use lib.ListN.{length}
 use Rattle.field.specs.Tab.{tab}
 use Rattle.plain.specs.declared.Answer.{Answer}
 use Rattle.plain.specs.declared.Asked.{Asked}
@@ -23,8 +22,7 @@ use Rattle.effect.specs.Done.{with_alarms}
 use Rattle.effect.specs.declared.Moved.{Moved}
 use Rattle.effect.specs.declared.Progress.{Progress}
 use Rattle.effect.proofs.Laws.{said_in}
-use Rattle.effect.proofs.Walk.{Walked, turned, walked_all}
-use borrow.Author.Rules.{rules}
+use Rattle.effect.proofs.Walk.{turned, walked_all}
 use Rattle.effect.proofs.list.run_from.Goals as goal
 
 pub loop-remaining-init : goal.loop-remaining-init

@@ -3,9 +3,7 @@
 use mathlib.Core.Path.{◌≡◌, sym, subst, ◌∙◌}
 use mathlib.Core.Bool.{cond}
 use mathlib.Core.List.{List}
-use mathlib.Core.Logic.{⊎_elim}
 use Prim.Native.Nat.{ℕ}
-use borrow.Author.Tests.{not-true, not-false}
 use Rattle.alarm.specs.Idle.{all_idle}
 use Rattle.effect.specs.declared.Progress.{Progress}
 use Rattle.effect.specs.declared.Done.{Done}
@@ -21,7 +19,6 @@ use Rattle.effect.specs.Known.{Known, Ready}
 use Rattle.effect.specs.Ran.{state_from}
 use Rattle.effect.proofs.Laws.{few, said_in, return-bounded, other-bounded, kept-alarms, moved-alarms}
 use Rattle.effect.proofs.Walk.{one-turn}
-use borrow.Author.Rules.{rules}
 use Rattle.effect.proofs.list.turn.Goals as goal
 use Rattle.effect.proofs.list.turn.Goals.{then-not-keeps, else-not-keeps, then-is_return, else-is_return}
 

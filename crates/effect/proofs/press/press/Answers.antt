@@ -12,7 +12,6 @@ use Rattle.effect.specs.Known.{Known}
 use Rattle.effect.specs.Done.{with_alarms, effect_of}
 use Rattle.effect.proofs.Laws.{said_in, first-in}
 use Rattle.effect.proofs.Rows.{on_move, plain-off, press-on}
-use borrow.Author.Rules.{rules}
 use Rattle.effect.proofs.press.press.Goals as goal
 
 pub returns-then-not-power : goal.returns-then-not-power

@@ -1,6 +1,5 @@
 -- `effect::restore::brought_back` meets its contract. Assumes nothing.
 use Rattle.plain.specs.Event.{brought_back}
-use borrow.Author.Rules.{rules}
 use Rattle.effect.proofs.restore.brought_back.Goals as goal
 
 pub returns : goal.returns

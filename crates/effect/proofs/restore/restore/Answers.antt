@@ -14,7 +14,6 @@ use Rattle.plain.specs.Event.{brought_back}
 use Rattle.plain.specs.Setup.{settings_in, here_in, over}
 use Rattle.effect.specs.Done.{with_alarms, bounded_for, effect_of}
 use Rattle.effect.proofs.Rows.{returned-effect, return-on, return-outside, return-unreadable, return_back}
-use borrow.Author.Rules.{rules}
 use Rattle.effect.proofs.restore.restore.Goals as goal
 
 pub returns-then-power : goal.returns-then-power

@@ -1,6 +1,5 @@
 -- `effect::restore::returned` meets its contract. Assumes nothing.
 use Rattle.plain.specs.Run.{return_by}
-use borrow.Author.Rules.{rules}
 use Rattle.effect.proofs.restore.returned.Goals as goal
 
 pub returns : goal.returns

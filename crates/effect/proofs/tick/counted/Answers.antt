@@ -1,7 +1,6 @@
 -- `effect::tick::counted` meets its contract. Assumes nothing.
 use mathlib.Core.Path.{refl}
 use Rattle.plain.specs.Run.{counting}
-use borrow.Author.Rules.{rules}
 use Rattle.effect.proofs.tick.counted.Goals as goal
 
 pub returns : goal.returns

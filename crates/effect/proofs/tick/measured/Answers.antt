@@ -1,6 +1,5 @@
 -- `effect::tick::measured` meets its contract. Assumes nothing.
 use Rattle.plain.specs.Run.{measuring}
-use borrow.Author.Rules.{rules}
 use Rattle.effect.proofs.tick.measured.Goals as goal
 
 pub returns : goal.returns

@@ -2,7 +2,6 @@
 use mathlib.Core.Path.{refl}
 use Rattle.position.proofs.Tests.{either-or}
 use Rattle.plain.specs.Run.{tick_saves}
-use borrow.Author.Rules.{rules}
 use Rattle.effect.proofs.tick.saves.Goals as goal
 
 pub returns : goal.returns

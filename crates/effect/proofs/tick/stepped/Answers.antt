@@ -1,6 +1,5 @@
 -- `effect::tick::stepped` meets its contract. Assumes nothing.
 use Rattle.plain.specs.Run.{stepping}
-use borrow.Author.Rules.{rules}
 use Rattle.effect.proofs.tick.stepped.Goals as goal
 
 pub returns : goal.returns

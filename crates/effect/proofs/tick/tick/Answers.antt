@@ -10,7 +10,6 @@ use Rattle.plain.proofs.Standing.{known-plain}
 use Rattle.effect.specs.Done.{with_alarms, effect_of}
 use Rattle.effect.proofs.Laws.{said_in}
 use Rattle.effect.proofs.Rows.{ticked-effect, plain-off, tick-outside, tick-on}
-use borrow.Author.Rules.{rules}
 use Rattle.effect.proofs.tick.tick.Goals as goal
 
 pub returns-then-not-power : goal.returns-then-not-power

@@ -4,7 +4,6 @@ use Prim.Native.Nat.{ℕ, ◌<◌}
 use Rattle.alarm.specs.Alarm.{all_clear}
 use Rattle.plain.specs.declared.Run.{Run}
 use Rattle.plain.specs.Run.{measuring, counting, stepping, tick_by}
-use borrow.Author.Rules.{rules}
 use Rattle.effect.proofs.tick.ticked.Goals as goal
 
 pub counted-requires : goal.counted-requires

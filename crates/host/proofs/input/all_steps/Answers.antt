@@ -1,11 +1,10 @@
 -- `host::input::all_steps` meets its contract. Assumes nothing.
 use mathlib.Core.Path.{◌≡◌, refl, sym, ap, ◌∙◌}
 use native.Mathlib.Omega.{arith}
-use Prim.Native.Nat.{◌+◌, ◌*◌, ◌-◌, ◌≤◌}
-use lib.ListN.{length, length-set}
+use Prim.Native.Nat.{◌+◌, ◌*◌, ◌≤◌}
+use lib.ListN.{length-set}
 use lib.Seq.{sets}
 use Rattle.bank.specs.View.{step_at}
-use Rattle.field.specs.Tab.{tab}
 use Rattle.field.proofs.Tab.{length-tab, tab-end, turn}
 use Rattle.field.proofs.Rows.{sets-all}
 use Rattle.host.proofs.input.all_steps.Goals as goal

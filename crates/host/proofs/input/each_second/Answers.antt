@@ -1,10 +1,9 @@
 -- `host::input::each_second` meets its contract. Assumes nothing.
 use mathlib.Core.Path.{◌≡◌, refl, sym, ap, ◌∙◌}
 use native.Mathlib.Omega.{arith}
-use Prim.Native.Nat.{ℕ, ◌+◌, ◌*◌, ◌-◌, ◌≤◌}
-use borrow.Author.Rules.{rules}
+use Prim.Native.Nat.{ℕ, ◌+◌, ◌*◌, ◌≤◌}
 use native.Mathlib.Nat.{add-zero}
-use lib.ListN.{length, length-set, replicate}
+use lib.ListN.{length-set, replicate}
 use lib.Seq.{sets}
 use Rattle.field.specs.Field.{field}
 use Rattle.field.specs.Tab.{tab}

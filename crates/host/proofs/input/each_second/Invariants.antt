@@ -1,15 +1,10 @@
 -- `host::input::each_second` meets its contract. Assumes nothing.
-use mathlib.Core.Path.{◌≡◌, refl, sym, ap, ◌∙◌}
-use native.Mathlib.Omega.{arith}
-use Prim.Native.Nat.{ℕ, ◌+◌, ◌*◌, ◌-◌, ◌≤◌}
-use borrow.Author.Rules.{rules}
-use native.Mathlib.Nat.{add-zero}
-use lib.ListN.{length, length-set, replicate}
+use mathlib.Core.Path.{◌≡◌}
+use Prim.Native.Nat.{◌+◌, ◌*◌, ◌-◌, ◌≤◌}
+use lib.ListN.{length}
 use lib.Seq.{sets}
 use Rattle.field.specs.Field.{field}
 use Rattle.field.specs.Tab.{tab}
-use Rattle.field.proofs.Tab.{length-tab, tab-end, turn}
-use Rattle.field.proofs.Rows.{sets-all}
 use Rattle.host.proofs.input.each_second.Given as goal
 
 abbrev pub invariant-loop-index : goal.invariant-loop-index

@@ -1,7 +1,6 @@
 -- `host::input::patterns_from` meets its contract. Assumes nothing.
 use mathlib.Core.Path.{refl}
 use Rattle.calls.specs.Calls.{patterns_from}
-use borrow.Author.Rules.{rules}
 use Rattle.host.proofs.input.patterns_from.Goals as goal
 
 pub returns : goal.returns

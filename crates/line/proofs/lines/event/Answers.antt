@@ -1,7 +1,6 @@
 -- `line::lines::event` meets its contract, by the event.
 -- Assumes nothing.
 use mathlib.Core.Path.{sym}
-use borrow.Author.Rules.{rules}
 use Rattle.line.proofs.lines.event.Goals as goal
 
 pub returns-in-Tick : goal.returns-in-Tick

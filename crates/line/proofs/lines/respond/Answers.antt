@@ -1,6 +1,5 @@
 -- `line::lines::respond` meets its contract: a line that asks for an event, and one of any other form.
 -- Assumes nothing.
-use borrow.Author.Rules.{rules}
 use Rattle.controller.specs.Holds.{state_of, after}
 use Rattle.line.specs.Beside.{sheet_over}
 use Rattle.line.specs.Text.{asked_for}
