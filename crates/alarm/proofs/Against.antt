@@ -9,7 +9,6 @@ use borrow.Author.Tests.{ltb-true, ltb-false, le-leb, lt-leb}
 use lib.Dec.{leb, ltb}
 use lib.IntN.{ℤ, pos, negsuc, sub_ℕ, ◌-ℤ◌, +ℤ_idr}
 use lib.Signed.{le_z}
-use Rattle.measure.specs.declared.Whole.{Whole}
 use Rattle.position.specs.Tests.{both, either, all, within, temperature}
 use Rattle.position.proofs.Raised.{sub-ge, sub-lt}
 use Rattle.position.proofs.Tests.{same}
@@ -17,9 +16,9 @@ use Rattle.alarm.specs.declared.AlarmSetting.{AlarmSetting}
 use Rattle.alarm.specs.declared.AlarmSettings.{AlarmSettings}
 use Rattle.alarm.specs.declared.Alarm.{Alarm}
 use Rattle.alarm.specs.declared.Alarms.{Alarms}
-use Rattle.alarm.specs.Alarm.{in_range, judged_value, condition, flags_of, clear, holds_at, waits, on_after, passed_after, count_after, alarm_after}
-use Rattle.alarm.specs.Alarm.{all_clear, kept_in, all_judged, tick_alarms, bounded}
+use Rattle.alarm.specs.Alarm.{in_range, judged_value, condition, flags_of, clear, holds_at, waits, on_after, passed_after, count_after, alarm_after, all_clear, kept_in, all_judged, tick_alarms, bounded}
 use Rattle.alarm.proofs.Ticks.{judged_over}
+use Rattle.std.specs.Prelude.{Some}
 
 -- the setting of this kind, H, L, C, delay and flags; and the alarm of these flags and count
 abbrev made : ℕ → ℤ → ℤ → ℕ → ℕ → ℕ → AlarmSetting
@@ -159,13 +158,13 @@ none_passes = refl
 
 module _ (settings : AlarmSettings) (whole set : ℤ) (alarms : Alarms) where
   -- paused ticks are judged as running ones are
-  pub paused-judged : (tick_alarms settings 1 (Whole.Value whole) set alarms ≡ all_judged settings whole set alarms)
-      × (tick_alarms settings 2 (Whole.Value whole) set alarms ≡ all_judged settings whole set alarms)
+  pub paused-judged : (tick_alarms settings 1 (Some whole) set alarms ≡ all_judged settings whole set alarms)
+      × (tick_alarms settings 2 (Some whole) set alarms ≡ all_judged settings whole set alarms)
   unfolding tick_alarms either
   paused-judged = (refl, refl)
 
   -- stopped and ended ones are not
-  pub ended-stays : (tick_alarms settings 0 (Whole.Value whole) set alarms ≡ alarms) × (tick_alarms settings 3 (Whole.Value whole) set alarms ≡ alarms)
+  pub ended-stays : (tick_alarms settings 0 (Some whole) set alarms ≡ alarms) × (tick_alarms settings 3 (Some whole) set alarms ≡ alarms)
   unfolding tick_alarms either
   ended-stays = (refl, refl)
 

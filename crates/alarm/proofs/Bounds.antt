@@ -10,15 +10,14 @@ use native.Mathlib.Omega.{arith}
 use borrow.Author.Tests.{le-leb, leb-true, leb-false, eqb-true, eqb-false, ne_eqb}
 use lib.Dec.{eqb, leb}
 use lib.IntN.{ℤ}
-use Rattle.measure.specs.declared.Whole.{Whole}
 use Rattle.position.specs.Tests.{both, either, all}
 use Rattle.position.proofs.Tests.{both_left, both_right, both_true, either-cases, choice}
 use Rattle.alarm.specs.declared.AlarmSetting.{AlarmSetting}
 use Rattle.alarm.specs.declared.AlarmSettings.{AlarmSettings}
 use Rattle.alarm.specs.declared.Alarm.{Alarm}
 use Rattle.alarm.specs.declared.Alarms.{Alarms}
-use Rattle.alarm.specs.Alarm.{holds, standby, is_on, has_passed, flags_of, clear, waits, on_after, passed_after, count_after, alarm_after, judged_by}
-use Rattle.alarm.specs.Alarm.{all_clear, kept_in, all_judged, tick_alarms, bounded, all_bounded}
+use Rattle.alarm.specs.Alarm.{holds, standby, is_on, has_passed, flags_of, clear, waits, on_after, passed_after, count_after, alarm_after, judged_by, all_clear, kept_in, all_judged, tick_alarms, bounded, all_bounded}
+use Rattle.std.specs.Prelude.{Option, None, Some}
 
 -- ---- the four
 
@@ -108,11 +107,11 @@ after-bounded setting mode alarm test other =
     (both_true _ _ (rw (ne_eqb mode 0 other)) refl)))
 
 -- so a tick keeps the bounds
-pub tick-bounded : (settings : AlarmSettings) (mode : ℕ) (whole : Whole) (set : ℤ) (alarms : Alarms)
+pub tick-bounded : (settings : AlarmSettings) (mode : ℕ) (whole : Option ℤ) (set : ℤ) (alarms : Alarms)
     → all_bounded settings mode alarms ≡ true → all_bounded settings mode (tick_alarms settings mode whole set alarms) ≡ true
 unfolding tick_alarms judged_by
-tick-bounded settings mode Whole.Nothing set alarms holds = holds
-tick-bounded settings mode (Whole.Value whole) set alarms holds =
+tick-bounded settings mode None set alarms holds = holds
+tick-bounded settings mode (Some whole) set alarms holds =
     choice (λ (left : Alarms). all_bounded settings mode left ≡ true) (either (eqb mode 1) (eqb mode 2))
     (λ judged. all-bounded settings mode (all_judged settings whole set alarms)
     (record { first = one judged _ _ _; second = one judged _ _ _; third = one judged _ _ _; fourth = one judged _ _ _ }))

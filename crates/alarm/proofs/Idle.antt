@@ -5,7 +5,6 @@ use mathlib.Core.Path.{◌≡◌, refl, sym, ap, ◌∙◌}
 use mathlib.Core.Bool.{false}
 use lib.Dec.{eqb}
 use lib.IntN.{ℤ}
-use Rattle.measure.specs.declared.Whole.{Whole}
 use Rattle.position.specs.Tests.{either}
 use Rattle.position.proofs.Tests.{choice}
 use Rattle.alarm.specs.declared.AlarmSetting.{AlarmSetting}
@@ -15,6 +14,7 @@ use Rattle.alarm.specs.declared.Alarms.{Alarms}
 use Rattle.alarm.specs.Alarm.{standby, judged_value, clear, judged_by, tick_alarms}
 use Rattle.alarm.proofs.Bounds.{Each}
 use Rattle.alarm.proofs.Ticks.{going-clear, breaks, never}
+use Rattle.std.specs.Prelude.{Option, None, Some}
 
 pub record Idle (setting : AlarmSetting) (alarm : Alarm) : Type 0 where
   pub kind : setting.kind ≡ 0
@@ -35,10 +35,10 @@ judged-stays whole set setting alarm idle =
     let cleared : alarm ≡ clear = λ i. record { flags = idle.flags i; count = idle.count i } in
     ap (judged_by whole set setting) cleared ∙ clear_stays whole set setting idle.kind idle.standby ∙ sym cleared
 
-pub tick-idle : (settings : AlarmSettings) (mode : ℕ) (whole : Whole) (set : ℤ) (alarms : Alarms) → Each Idle settings alarms → tick_alarms settings mode whole set alarms ≡ alarms
+pub tick-idle : (settings : AlarmSettings) (mode : ℕ) (whole : Option ℤ) (set : ℤ) (alarms : Alarms) → Each Idle settings alarms → tick_alarms settings mode whole set alarms ≡ alarms
 unfolding tick_alarms
-tick-idle settings mode Whole.Nothing set alarms idle = refl
-tick-idle settings mode (Whole.Value whole) set alarms idle =
+tick-idle settings mode None set alarms idle = refl
+tick-idle settings mode (Some whole) set alarms idle =
     choice (λ (left : Alarms). left ≡ alarms) (either (eqb mode 1) (eqb mode 2))
     (λ _ i. record {
       first = judged-stays whole set settings.first alarms.first idle.first i;

@@ -6,5 +6,3 @@ pub mod Widening
 pub mod Idle
 pub mod Short
 pub mod Against
-pub mod Wide
-pub mod Coded

@@ -5,7 +5,6 @@ use mathlib.Core.Path.{◌≡◌, sym}
 use mathlib.Core.Bool.{true}
 use borrow.Author.Tests.{not-true, eqb-true}
 use lib.IntN.{ℤ}
-use Rattle.measure.specs.declared.Whole.{Whole}
 use Rattle.position.specs.Tests.{both, either, all, within, temperature}
 use Rattle.position.proofs.Tests.{both_left, both_right}
 use Rattle.alarm.specs.declared.AlarmSetting.{AlarmSetting}
@@ -16,6 +15,7 @@ use Rattle.alarm.specs.Alarm.{standby, in_range, all_in_range, clear, all_clear,
 use Rattle.alarm.proofs.Bounds.{each_holds, clear-bounded}
 use Rattle.alarm.proofs.Idle.{Idle, tick-idle}
 use Rattle.alarm.specs.Idle.{all_unset, is_clear, all_are_clear, is_idle, all_idle}
+use Rattle.std.specs.Prelude.{Option}
 
 pub unset-in-range : (settings : AlarmSettings) → settings ≡ all_unset → true ≡ all_in_range settings
 unfolding all_in_range in_range all both either temperature within
@@ -50,7 +50,7 @@ idle-is setting alarm known =
       count = eqb-true alarm.count 0 (both_right _ _ cleared);
     }
 
-pub idle-leaves : (settings : AlarmSettings) (mode : ℕ) (whole : Whole) (set : ℤ) (alarms : Alarms) → all_idle settings alarms ≡ true
+pub idle-leaves : (settings : AlarmSettings) (mode : ℕ) (whole : Option ℤ) (set : ℤ) (alarms : Alarms) → all_idle settings alarms ≡ true
     → alarms ≡ tick_alarms settings mode whole set alarms
 unfolding all_idle
 idle-leaves settings mode whole set alarms known =

@@ -11,16 +11,15 @@ use borrow.Author.Tests.{le-leb, lt-leb, leb-true, ne_eqb}
 use lib.Dec.{eqb, leb}
 use lib.IntN.{ℤ}
 use lib.ListN.{length}
-use Rattle.measure.specs.declared.Whole.{Whole}
 use Rattle.position.specs.Tests.{both, either, all}
 use Rattle.position.proofs.Tests.{both_left, both_right, either-right}
 use Rattle.alarm.specs.declared.AlarmSetting.{AlarmSetting}
 use Rattle.alarm.specs.declared.AlarmSettings.{AlarmSettings}
 use Rattle.alarm.specs.declared.Alarm.{Alarm}
 use Rattle.alarm.specs.declared.Alarms.{Alarms}
-use Rattle.alarm.specs.Alarm.{odd, holds, standby, judged_value, condition, is_on, flags_of, clear, holds_at, waits, on_after, passed_after}
-use Rattle.alarm.specs.Alarm.{count_after, alarm_after, judged_by, tick_alarms, bounded}
+use Rattle.alarm.specs.Alarm.{odd, holds, standby, judged_value, condition, is_on, flags_of, clear, holds_at, waits, on_after, passed_after, count_after, alarm_after, judged_by, tick_alarms, bounded}
 use Rattle.alarm.proofs.Bounds.{Within}
+use Rattle.std.specs.Prelude.{Option, None, Some}
 
 -- a judged tick at a value
 abbrev pub judged_at : AlarmSetting → Alarm → ℤ → Alarm
@@ -240,12 +239,12 @@ module _ (setting : AlarmSetting) where
 
 module _ (settings : AlarmSettings) (set : ℤ) (alarms : Alarms) where
   -- without a filtered value flags and counts stay
-  pub unfiltered-stays : (mode : ℕ) → tick_alarms settings mode Whole.Nothing set alarms ≡ alarms
+  pub unfiltered-stays : (mode : ℕ) → tick_alarms settings mode None set alarms ≡ alarms
   unfolding tick_alarms
   unfiltered-stays mode = refl
 
   -- and so they do outside modes 1 and 2
-  pub unjudged-stays : (mode : ℕ) (whole : Whole) → (mode ≡ 1 → ⊥) → (mode ≡ 2 → ⊥) → tick_alarms settings mode whole set alarms ≡ alarms
+  pub unjudged-stays : (mode : ℕ) (whole : Option ℤ) → (mode ≡ 1 → ⊥) → (mode ≡ 2 → ⊥) → tick_alarms settings mode whole set alarms ≡ alarms
   unfolding tick_alarms either
-  unjudged-stays mode Whole.Nothing running paused = refl
-  unjudged-stays mode (Whole.Value whole) running paused = rw (ne_eqb mode 1 running, ne_eqb mode 2 paused)
+  unjudged-stays mode None running paused = refl
+  unjudged-stays mode (Some whole) running paused = rw (ne_eqb mode 1 running, ne_eqb mode 2 paused)

@@ -1,8 +1,7 @@
 -- Four event alarms, in the words of note 1 of document 02.
 -- Assumes nothing.
-use Rattle.std.specs.Prelude.{ℕ, ◌+◌, ◌/◌, ◌%◌, Bool, false, cond, not, [], ◌∷◌, eqb, leb, ℤ, pos, ◌+ℤ◌, ◌-ℤ◌}
+use Rattle.std.specs.Prelude.{ℕ, ◌+◌, ◌/◌, ◌%◌, Bool, false, cond, not, [], ◌∷◌, eqb, leb, ℤ, pos, ◌+ℤ◌, ◌-ℤ◌, Option, None, Some}
 use Rattle.std.specs.Int.Signed.{le_z}
-use Rattle.measure.specs.declared.Whole.{Whole}
 use Rattle.position.specs.Tests.{both, either, all, within, temperature}
 use Rattle.alarm.specs.declared.AlarmSetting.{AlarmSetting}
 use Rattle.alarm.specs.declared.AlarmSettings.{AlarmSettings}
@@ -128,9 +127,9 @@ all_judged settings whole set alarms =
     }
 
 -- judged if the mode after the tick's own step is 1 or 2; alarms move only on such ticks with a filtered value
-unfoldable pub tick_alarms : AlarmSettings → ℕ → Whole → ℤ → Alarms → Alarms
-tick_alarms settings mode Whole.Nothing set alarms = alarms
-tick_alarms settings mode (Whole.Value whole) set alarms = cond (either (eqb mode 1) (eqb mode 2)) (all_judged settings whole set alarms) alarms
+unfoldable pub tick_alarms : AlarmSettings → ℕ → Option ℤ → ℤ → Alarms → Alarms
+tick_alarms settings mode None set alarms = alarms
+tick_alarms settings mode (Some whole) set alarms = cond (either (eqb mode 1) (eqb mode 2)) (all_judged settings whole set alarms) alarms
 
 -- ---- bounds, of a readable record and of a sound state
 

@@ -4,7 +4,7 @@
 // The settings of an alarm.
 #[derive(Clone, Copy)]
 pub struct AlarmSetting {
-    pub kind: u8, // 0 to 8
+    pub kind: u8, // 0 to 8; a number, since one out of range has a refusal, 41
     pub high: i16, // H
     pub low: i16, // L
     pub sensitivity: u16, // C
@@ -12,7 +12,7 @@ pub struct AlarmSetting {
     pub flags: u8, // hold 1, standby 2
 }
 
-// Those of all four.
+// Those of all four, and the alarms below, as fields and no array: definitions and theorems (`all_in_range`, `all_judged`) name each.
 #[derive(Clone, Copy)]
 pub struct AlarmSettings {
     pub first: AlarmSetting,

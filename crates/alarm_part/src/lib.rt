@@ -14,41 +14,42 @@ pub const FROM: usize = 411;
 pub const SIZE: usize = 4 * (1 + 2);
 
 // The bytes of alarms.
+#[tactic(auto, unfolding(field::specs::Row::row, field::specs::Field::digits))]
 fn alarm_bytes(alarms: Alarms) -> [u8; 12]
     ensures { result ≡ row alarm_widths (alarm_numbers alarms) }
 {
-    let first = alarms.first;
-    let second = alarms.second;
-    let third = alarms.third;
-    let fourth = alarms.fourth;
+    let Alarms {
+        first,
+        second,
+        third,
+        fourth,
+    } = alarms;
+    let [first_low, first_high] = first.count.to_le_bytes();
+    let [second_low, second_high] = second.count.to_le_bytes();
+    let [third_low, third_high] = third.count.to_le_bytes();
+    let [fourth_low, fourth_high] = fourth.count.to_le_bytes();
     [
         first.flags,
-        (first.count % 256) as u8,
-        (first.count / 256 % 256) as u8,
+        first_low,
+        first_high,
         second.flags,
-        (second.count % 256) as u8,
-        (second.count / 256 % 256) as u8,
+        second_low,
+        second_high,
         third.flags,
-        (third.count % 256) as u8,
-        (third.count / 256 % 256) as u8,
+        third_low,
+        third_high,
         fourth.flags,
-        (fourth.count % 256) as u8,
-        (fourth.count / 256 % 256) as u8,
+        fourth_low,
+        fourth_high,
     ]
 }
 
 // Alarms are written at an offset of a buffer that has room for them there; any other is left as it was.
+#[tactic(auto, unfolding(field::specs::Row::total, field::specs::Row::stored_row))]
 pub fn write_alarms(bytes: &mut [u8], at: usize, alarms: Alarms)
     ensures { bytes.new ≡ stored_row alarm_widths bytes.old at (alarm_numbers alarms) }
 {
-    if bytes.len() < at {
-        return;
-    }
-    if bytes.len() - at < SIZE {
-        return;
-    }
-    let row = alarm_bytes(alarms);
-    stored::copy(&mut bytes[at..at + SIZE], &row);
+    stored::put_bytes(bytes, at, &alarm_bytes(alarms));
 }
 
 // The alarm at an offset of a record, and the alarms that it holds. Bytes past the end read as 0.
@@ -62,6 +63,7 @@ fn read_alarm(store: &[u8], at: usize) -> Alarm
     }
 }
 
+#[tactic(auto, unfolding(field::specs::Row::total, alarm::specs::Part::alarms_at, plain::specs::Record::widths_of, plain::specs::Record::credit_widths, plain::specs::Record::alarms_in))]
 pub fn read_alarms(store: &[u8]) -> Alarms
     ensures { result ≡ alarms_in store.now }
 {

@@ -3,13 +3,14 @@
 
 ghost use Rattle.std.specs.Prelude.{◌≡◌, pos, get_or};
 ghost use Rattle.setting.specs.Found.{numbers_of as bank_numbers};
-ghost use Rattle.plain.specs.Answer.{number_of, numbers_of};
+ghost use Rattle.plain.specs.Answer.{numbers_of};
 ghost use Rattle.answer.specs.Numbers.{number_and_values};
 
-use plain::{Answer, Refusal};
-use setting::Checked;
+use plain::AnyRefusal;
+use position::Shown;
+use setting::BankRefusal;
 
-// The number, 0 if accepted, and its values, 0 where it has none; how many numbers that are.
+// The document's number (a number in the C interface), 0 if accepted, and its values, 0 where it has none; how many numbers that are.
 #[derive(Clone, Copy)]
 pub struct Numbers {
     pub number: u8,
@@ -30,27 +31,24 @@ fn alone(number: u8) -> Numbers
     }
 }
 
-// What the check of a bank finds.
+// A bank's refusal.
 #[tactic(auto, unfolding(setting::specs::Found::numbers_of, crate::specs::Numbers::number_and_values))]
-pub fn of_checked(found: Checked) -> Numbers
-    ensures { result ≡ number_and_values (bank_numbers found) }
+pub fn of_bank(refusal: BankRefusal) -> Numbers
+    ensures { result ≡ number_and_values (bank_numbers (Err refusal)) }
 {
-    match found {
-        Checked::Accepted => alone(0),
-        Checked::Short => alone(11),
-        Checked::Setting(offset) => Numbers {
-            number: 12,
+    match refusal {
+        BankRefusal::Short => alone(11),
+        BankRefusal::Setting(offset) => Numbers {
             first: offset,
-            second: 0,
             count: 2,
+            ..alone(12)
         },
-        Checked::Pair(pair) => Numbers {
-            number: 13,
+        BankRefusal::Pair(pair) => Numbers {
             first: pair as u16,
-            second: 0,
             count: 2,
+            ..alone(13)
         },
-        Checked::Body(pattern, step) => Numbers {
+        BankRefusal::Body(pattern, step) => Numbers {
             number: 14,
             first: pattern as u16,
             second: step,
@@ -59,34 +57,25 @@ pub fn of_checked(found: Checked) -> Numbers
     }
 }
 
-// The number of a refusal.
-#[tactic(auto, unfolding(plain::specs::Answer::number_of))]
-fn of_refusal(refusal: Refusal) -> u8
-    ensures { result ≡ number_of refusal }
+// What the check of a bank finds.
+#[tactic(auto, unfolding(setting::specs::Found::numbers_of, crate::specs::Numbers::number_and_values))]
+pub fn of_checked(found: Result<(), BankRefusal>) -> Numbers
+    ensures { result ≡ number_and_values (bank_numbers found) }
 {
-    match refusal {
-        Refusal::Unsound => 21,
-        Refusal::Buffer => 22,
-        Refusal::AlarmSetting => 41,
-        Refusal::PowerOff => 23,
-        Refusal::PowerOn => 24,
-        Refusal::Outside => 25,
-        Refusal::NoPattern => 26,
-        Refusal::WrongMode => 27,
-        Refusal::NoStep => 28,
-        Refusal::NoValue => 29,
-        Refusal::Stuck => 30,
-        Refusal::Unreadable => 31,
+    match found {
+        Ok(()) => alone(0),
+        Err(refusal) => of_bank(refusal),
     }
 }
 
 // The number of an answer.
-pub fn number(answer: Answer) -> u8
+#[tactic(auto, using(crate::proofs::Laws::first), unfolding(plain::specs::Answer::numbers_of, plain::specs::Answer::number_of))]
+pub fn number(answer: Result<Shown, AnyRefusal>) -> u8
     ensures { pos result ≡ get_or (numbers_of answer) 0 (pos 0) }
 {
     match answer {
-        Answer::Accepted(_) => 0,
-        Answer::Bank(found) => of_checked(found).number,
-        Answer::Refused(refusal) => of_refusal(refusal),
+        Ok(_) => 0,
+        Err(AnyRefusal::Bank(refusal)) => of_bank(refusal).number,
+        Err(AnyRefusal::Own(refusal)) => refusal as u8,
     }
 }

@@ -18,12 +18,12 @@ use Rattle.bank.specs.View.{step_at, pattern_at, patterns_of, offset_of, length_
 use Rattle.field.specs.Tab.{tab}
 use Rattle.bank.specs.Check.{pair_right, pairs_from, pairs_found, found_in}
 use Rattle.bank.specs.declared.Step.{Step}
-use Rattle.setting.specs.declared.Checked.TheVariants.{Accepted}
 use Rattle.setting.proofs.Laws.{both_left, both_right}
 use Rattle.field.proofs.Tab.{length-tab}
 use Rattle.bank.proofs.Facts.{not-pair, test-holds, parts}
 use Rattle.arrays.specs.Encode.{paired, setting_widths, setting_numbers, step_widths, step_numbers, steps_bytes, bodies_bytes, pairs_bytes, encode}
 use Rattle.arrays.proofs.Back.{step-at}
+use Rattle.setting.specs.Found.{Accepted}
 
 -- two parts side by side are one part
 joined : (bank : List ℕ) (i j m more : ℕ) → i + m ≡ j → take m (drop i bank) ++ take more (drop j bank) ≡ take (m + more) (drop i bank)

@@ -2,13 +2,14 @@
 -- it is due, gives the whole.
 -- Assumes nothing.
 use mathlib.Core.Path.{◌≡◌, sym, ap, ◌∙◌}
-use mathlib.Core.List.{List, ◌∷◌, map}
-use Prim.Native.Nat.{ℕ, suc, ◌+◌, ◌*◌, ◌≤◌, ◌<◌}
+use mathlib.Core.List.{List, ◌∷◌, map, append_assoc}
+use Prim.Native.Nat.{ℕ, suc, ◌+◌, ◌*◌, ◌-◌, ◌≤◌, ◌<◌}
 use native.Mathlib.Nat.{add-mul, one-mul}
 use native.Mathlib.Numerals.{add-one}
 use native.Mathlib.Omega.{arith}
 use lib.ListN.{length, set, replicate}
-use lib.Seq.{sets, ext_get_or}
+use borrow.Rule.Slice.PartMut.{put_mid}
+use lib.Seq.{sets, sets-eq, drop-drop, ext_get_or}
 use Rattle.field.specs.Field.{field}
 use Rattle.field.specs.Tab.{tab}
 use Rattle.field.proofs.Laws.{sets-append}
@@ -17,11 +18,17 @@ use Rattle.capacity.specs.Capacity.{capacity_of}
 use Rattle.bank.specs.View.{Pattern, pattern_at, patterns_of, pattern_of, step_of, numbered, no_step}
 use Rattle.bank.specs.Check.{found_in}
 use Rattle.bank.specs.declared.Step.{Step}
-use Rattle.setting.specs.declared.Checked.TheVariants.{Accepted}
 use Rattle.bank.proofs.Facts.{there, pattern-there, count-is, count_fits}
 use Rattle.arrays.specs.declared.Patterns.{Patterns}
 use Rattle.arrays.specs.Read.{all_steps, laid_out}
 use Rattle.arrays.proofs.Views.{rest, rest-start, rest_more, rest_end, tab-from}
+use Rattle.setting.specs.Found.{Accepted}
+
+-- a part of a list, with all of its entries stored
+pub part-stored : {A : Type 0} (at count : ℕ) (xs ys : List A) → at + count ≤ length xs → length ys ≡ count → put_mid at (at + count - at) xs ys ≡ sets xs at ys
+part-stored at count xs ys h same =
+    let size : at + count - at ≡ length ys = omega arith in
+    rw size (sym (sets-eq ys xs at (omega arith) ∙ (simp (append_assoc, drop-drop))))
 
 -- ---- patterns laid out in arrays, from place p on, and their steps from place base on
 

@@ -7,8 +7,9 @@ use Prim.Native.Nat.{ℕ, ◌+◌, ◌*◌, ◌≤◌, ◌<◌}
 use native.Mathlib.Omega.{arith}
 use borrow.Author.Tests.{le-leb, eq-eqb}
 use lib.IntN.{ℤ}
-use lib.ListN.{length, drop}
+use lib.ListN.{length, take, drop}
 use lib.Seq.{drop_at}
+use Rattle.std.proofs.Common.{sum}
 use Rattle.field.specs.Field.{field}
 use Rattle.field.specs.Row.{row}
 use Rattle.capacity.specs.Capacity.{capacity_of}
@@ -20,18 +21,18 @@ use Rattle.setting.specs.Setting.{settings_found, settings_in}
 use Rattle.bank.specs.Check.{pair_right, pairs_from, pairs_found, bodies_found, of_length, found_in}
 use Rattle.arrays.specs.Read.{all_steps}
 use Rattle.setting.specs.declared.Settings.{Settings}
-use Rattle.setting.specs.declared.Checked.{Checked}
 use Rattle.arrays.specs.declared.Patterns.{Patterns}
-use Rattle.setting.specs.declared.Checked.TheVariants.{Accepted}
 use Rattle.setting.proofs.Laws.{on, right, first-is, next, both_left}
 use Rattle.bank.proofs.Facts.{not_body, test-holds, then-holds, all_fit}
 use Rattle.arrays.specs.Encode.{setting_widths, setting_numbers, bodies_bytes, size_of, pairs_bytes, encode}
 use Rattle.arrays.specs.Write.{taken_of, within_capacity, wrong_in}
 use Rattle.arrays.proofs.Views.{All, all_map, all_drop, all_take, all-tab}
-use Rattle.arrays.proofs.Taken.{count_at, pattern_in, taken-all, length_taken, Fit, fit_of, sum_to, all_in}
-use Rattle.arrays.proofs.Sizes.{length-settings, length_front, length-bank, full, length-all}
+use Rattle.arrays.proofs.Taken.{count_at, pattern_in, taken-all, length_taken, Fit, fit_of, sum_to, sum-taken, all_in}
+use Rattle.arrays.proofs.Sizes.{length-settings, length_front, length-written, full, length-all}
 use Rattle.arrays.proofs.Values.{SettingsFit, fours-of, PatternsFit, StepFits}
 use Rattle.arrays.proofs.Back.{PatternFits, Stand, settings-read, stand, patterns-read}
+use Rattle.setting.specs.Found.{Checked}
+use Rattle.setting.specs.Found.{Accepted}
 
 -- ---- patterns that are right
 
@@ -102,21 +103,24 @@ module _ (settings : Settings) (ps : Patterns) (f : SettingsFit settings) (g : P
   wholes = whole-all settings ps g ok
 
   -- at most 99 steps
+  steps_of : length (all_steps (taken_of settings ps)) ≡ sum_to ps.counts settings.patterns
+  steps_of = ap (λ (ys : List Pattern). length (all_steps ys)) (taken-all settings ps) ∙ length-all ps settings.patterns fit g.size
+
   steps-in : length (all_steps (taken_of settings ps)) ≤ 99
-  steps-in =
-      let same = ap (λ (ys : List Pattern). length (all_steps ys)) (taken-all settings ps) in
-      omega (arith, same, length-all ps settings.patterns fit g.size, all_in settings.patterns ps fit settings.patterns (omega arith))
+  steps-in = omega (arith, steps_of, all_in settings.patterns ps fit settings.patterns (omega arith))
 
-  size : length (encode settings (taken_of settings ps)) ≡ 45 + 6 * length (taken_of settings ps) + 9 * length (all_steps (taken_of settings ps))
-  size = length-bank settings xs (fours-of settings f)
+  size : length (encode settings (taken_of settings ps)) ≡ 45 + 6 * settings.patterns + 9 * length (all_steps (taken_of settings ps))
+  size = length-written settings ps (fours-of settings f)
 
-  -- by a number of steps that is theirs
-  pub size-by : {steps : ℕ} → steps ≡ length (all_steps (taken_of settings ps))
+  -- by the sum of the counts
+  pub size-by : {steps : ℕ} → steps ≡ sum (take settings.patterns ps.counts)
       → (45 + 6 * settings.patterns + 9 * steps ≡ length (encode settings (taken_of settings ps))) × (steps ≤ 99)
-  size-by same = (omega (arith, size, length_taken settings ps), omega (arith, steps-in))
+  size-by same =
+      let counted = same ∙ sum-taken ps.counts settings.patterns (omega (arith, fit.few, g.counts)) ∙ sym steps_of in
+      (omega (arith, size, counted), omega (arith, steps-in, counted))
 
   short : length bank < 65536
-  short = omega (arith, size, length_taken settings ps, fit.few, steps-in)
+  short = omega (arith, size, fit.few, steps-in)
 
   abbrev due : ℕ
   due = 45 + 4 * length xs
@@ -139,7 +143,7 @@ module _ (settings : Settings) (ps : Patterns) (f : SettingsFit settings) (g : P
       let cap = all_fit settings.patterns 1 fit.some fit.few fit.some in
       let fits : (x : Pattern) → Whole settings.patterns x → PatternFits x =
       λ x whole. record { runs = omega (arith, whole.runs); count = omega (arith, whole.most, cap); steps = whole.steps } in
-      stand bank xs 1 due (bodies_bytes xs) short (omega (arith, size)) (all_map (Whole settings.patterns) PatternFits fits xs wholes) at-pairs at-bodies
+      stand bank xs 1 due (bodies_bytes xs) short (omega (arith, size, length_taken settings ps)) (all_map (Whole settings.patterns) PatternFits fits xs wholes) at-pairs at-bodies
 
   -- it reads as what was taken
   pub reads-settings : settings_at (encode settings (taken_of settings ps)) ≡ settings

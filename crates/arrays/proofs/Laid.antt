@@ -17,13 +17,13 @@ use Rattle.bank.specs.Check.{of_length, found_in}
 use Rattle.arrays.specs.Read.{all_steps, laid_out}
 use Rattle.bank.specs.declared.Step.{Step}
 use Rattle.arrays.specs.declared.Patterns.{Patterns}
-use Rattle.setting.specs.declared.Checked.TheVariants.{Accepted}
 use Rattle.setting.proofs.Laws.{next}
 use Rattle.field.proofs.Tab.{length-tab}
 use Rattle.bank.proofs.Facts.{parts, count-range, there, pattern-there, count-is, count_fits, all_fit}
 use Rattle.arrays.specs.Write.{taken_from, taken_of, within_capacity, wrong_in}
 use Rattle.arrays.proofs.Views.{All, all_map, all-tab}
 use Rattle.arrays.proofs.Found.{bodies-change}
+use Rattle.setting.specs.Found.{Accepted}
 
 -- the entry at a place, and what stands behind it
 entry : (l : List ℕ) (p x : ℕ) (behind : List ℕ) → drop p l ≡ x ∷ behind → get_or l p 0 ≡ x

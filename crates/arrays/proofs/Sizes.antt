@@ -16,8 +16,9 @@ use Rattle.setting.specs.declared.Settings.{Settings}
 use Rattle.bank.specs.declared.Step.{Step}
 use Rattle.arrays.specs.declared.Patterns.{Patterns}
 use Rattle.arrays.specs.Encode.{paired, setting_widths, setting_numbers, step_widths, step_numbers, steps_bytes, bodies_bytes, size_of, pairs_bytes, encode}
+use Rattle.arrays.specs.Write.{taken_of}
 use Rattle.arrays.proofs.Views.{rest, rest_more}
-use Rattle.arrays.proofs.Taken.{part, part-more, count_at, steps_at, pattern_in, Fit, sum_to, sum_more, next-in}
+use Rattle.arrays.proofs.Taken.{drop-more, length_taken, count_at, steps_at, pattern_in, Fit, sum_to, sum_more, next-in}
 
 -- ---- pairs of settings
 
@@ -112,6 +113,10 @@ length-bank settings xs f =
 
 -- ---- what is taken
 
+pub length-written : (settings : Settings) (ps : Patterns) → Fours settings
+    → length (encode settings (taken_of settings ps)) ≡ 45 + 6 * settings.patterns + 9 * length (all_steps (taken_of settings ps))
+length-written settings ps f = omega (arith, length-bank settings (taken_of settings ps) f, length_taken settings ps)
+
 pub length_part : (steps : List Step) (base count : ℕ) → base + count ≤ length steps → length (take count (drop base steps)) ≡ count
 length_part steps base count h = length-take-le count (drop base steps) (simp length-drop (omega arith))
 
@@ -136,14 +141,15 @@ module _ (ps : Patterns) (n : ℕ) (fit : Fit n ps) (all : length ps.steps ≡ 9
 pub sets_then : (out xs rest : List ℕ) (at j : ℕ) {left : List ℕ} → left ≡ sets out at xs → at + length xs ≡ j → sets out at (xs ++ rest) ≡ sets left j rest
 sets_then out xs rest at j same f = sym (sets-append xs rest out at) ∙ (λ i. sets (sym same i) (f i) rest)
 
-pub steps-turn : (steps : List Step) (base count k : ℕ) (d : Step) → k < count → base + k < length steps → (out : List ℕ) (at j : ℕ) {left : List ℕ}
-    → left ≡ sets out at (row step_widths (step_numbers (get_or steps (base + k) d))) → at + 9 ≡ j
-    → sets out at (steps_bytes (part steps base count k)) ≡ sets left j (steps_bytes (part steps base count (k + 1)))
+pub steps-turn : (steps : List Step) (k : ℕ) (d : Step) → k < length steps → (out : List ℕ) (at j : ℕ) {left : List ℕ}
+    → left ≡ sets out at (row step_widths (step_numbers (get_or steps k d))) → at + 9 ≡ j
+    → sets out at (steps_bytes (drop k steps)) ≡ sets left j (steps_bytes (drop (k + 1) steps))
 unfolding steps_bytes
-steps-turn steps base count k d h l out at j same f =
-    let x = get_or steps (base + k) d in
-    ap (λ (ss : List Step). sets out at (steps_bytes ss)) (part-more steps base count k d h l)
-    ∙ sets_then out (row step_widths (step_numbers x)) (steps_bytes (part steps base count (k + 1))) at j same (omega (arith, length-step x))
+steps-turn steps k d h out at j same f =
+    let x = get_or steps k d in
+    let next = steps_bytes (drop (k + 1) steps) in
+    ap (λ (ss : List Step). sets out at (steps_bytes ss)) (drop-more steps k d h)
+    ∙ sets_then out (row step_widths (step_numbers x)) next at j same (omega (arith, length-step x))
 
 -- one pattern, whose steps are there
 module _ (ps : Patterns) (n p : ℕ) (h : p < n) (l : sum_to ps.counts p + count_at ps p ≤ length ps.steps) where

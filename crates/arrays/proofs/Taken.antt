@@ -4,15 +4,17 @@
 use mathlib.Core.Path.{◌≡◌, refl, sym, ap, ◌∙◌, subst}
 use mathlib.Core.Bool.{Bool, true}
 use mathlib.Core.List.{List, [], ◌∷◌}
-use Prim.Native.Nat.{ℕ, zero, suc, ◌+◌, ◌*◌, ◌-◌, ◌≤◌, ◌<◌}
-use native.Mathlib.Nat.{sub-zero, add-zero, le_trans}
+use Prim.Native.Nat.{ℕ, zero, suc, ◌+◌, ◌*◌, ◌≤◌, ◌<◌}
+use native.Mathlib.Nat.{le_trans}
 use native.Mathlib.Numerals.{add-one}
 use native.Mathlib.Omega.{arith}
 use borrow.Author.Tests.{leb-true}
 use lib.Dec.{leb}
 use lib.IntN.{ℤ}
-use lib.ListN.{length, get_or, take, drop}
-use lib.Seq.{drop-cons}
+use lib.ListN.{length, get_or, take, drop, drop_of_length-le}
+use lib.Seq.{drop-cons, take-suc}
+use Rattle.std.proofs.Common.{sum}
+use Rattle.std.proofs.lemmas.List.Sums.{sum_by_push}
 use Rattle.field.specs.Tab.{tab}
 use Rattle.field.proofs.Tab.{length-tab, get_or-tab}
 use Rattle.limits.specs.Range.{both}
@@ -22,35 +24,16 @@ use Rattle.bank.specs.Check.{step_right, steps_found, bodies_found}
 use Rattle.setting.specs.Found.{test, then}
 use Rattle.setting.specs.declared.Settings.{Settings}
 use Rattle.bank.specs.declared.Step.{Step}
-use Rattle.setting.specs.declared.Checked.{Checked}
-use Rattle.setting.specs.declared.Checked.TheVariants.{Accepted, Body}
+use Rattle.setting.specs.declared.BankRefusal.TheVariants.{Body}
 use Rattle.setting.proofs.Laws.{both_left, both_right, settings-count}
 use Rattle.bank.proofs.Facts.{not_body, test-holds, then-holds, all_fit}
 use Rattle.arrays.specs.declared.Patterns.{Patterns}
 use Rattle.arrays.specs.Write.{taken_from, taken_of, within_capacity, wrong_in}
 use Rattle.arrays.proofs.Views.{rest, rest-start, rest_more, rest_end}
 use Rattle.arrays.proofs.Copied.{grown}
-
--- ---- the steps of a pattern, from place k of it on
-
-unfoldable pub part : List Step → ℕ → ℕ → ℕ → List Step
-part steps base count k = take (count - k) (drop (base + k) steps)
-
-pub part-start : (steps : List Step) (base count : ℕ) → take count (drop base steps) ≡ part steps base count 0
-unfolding part
-part-start steps base count = rw (sub-zero, add-zero)
-
-pub part-more : (steps : List Step) (base count k : ℕ) (d : Step) → k < count → base + k < length steps
-    → part steps base count k ≡ get_or steps (base + k) d ∷ part steps base count (k + 1)
-unfolding part
-part-more steps base count k d h l =
-    let same : count - k ≡ suc (count - (k + 1)) = omega arith in
-    let f : suc (base + k) ≡ base + (k + 1) = omega arith in
-    rw (same, drop-cons steps (base + k) d l, f)
-
-pub part_end : (steps : List Step) (base count k : ℕ) → count ≤ k → part steps base count k ≡ []
-unfolding part
-part_end steps base count k h = let same : count - k ≡ 0 = omega arith in rw same
+use Rattle.std.specs.Prelude.{Err}
+use Rattle.setting.specs.Found.{Checked}
+use Rattle.setting.specs.Found.{Accepted}
 
 -- ---- the patterns, from place p on
 
@@ -62,6 +45,14 @@ sum_to counts (suc p) = sum_to counts p + get_or counts p 0
 pub sum_more : (counts : List ℕ) (p : ℕ) → sum_to counts (p + 1) ≡ sum_to counts p + get_or counts p 0
 unfolding sum_to
 sum_more counts p = rw add-one
+
+pub sum-taken : (counts : List ℕ) (p : ℕ) → p ≤ length counts → sum (take p counts) ≡ sum_to counts p
+unfolding sum_to
+sum-taken counts zero h = refl
+sum-taken counts (suc p) h =
+    let l : p < length counts = omega arith in
+    rw (take-suc counts p 0 l)
+    (sum_by_push (λ x. x) (take p counts) (get_or counts p 0) ∙ ap (λ (before : ℕ). before + get_or counts p 0) (sum-taken counts p (omega arith)))
 
 abbrev pub count_at : Patterns → ℕ → ℕ
 count_at ps p = get_or ps.counts p 0
@@ -91,22 +82,24 @@ taken-rest settings ps = taken-all settings ps ∙ rest-start (pattern_in ps) se
 pub length_taken : (settings : Settings) (ps : Patterns) → length (taken_of settings ps) ≡ settings.patterns
 length_taken settings ps = ap length (taken-all settings ps) ∙ length-tab (pattern_in ps) 1 0 settings.patterns
 
+pub drop-more : {A : Type 0} (xs : List A) (k : ℕ) (d : A) → k < length xs → drop k xs ≡ get_or xs k d ∷ drop (k + 1) xs
+drop-more xs k d h = rw (drop-cons xs k d h, add-one)
+
 -- ---- the check of what is left, under the set value limits
 
 module _ (low high : ℤ) where
   -- the steps of pattern p + 1, from step k + 1 on
-  unfoldable pub steps_left : List Step → ℕ → ℕ → ℕ → ℕ → Checked
-  steps_left steps p base count k = steps_found low high (p + 1) (k + 1) (part steps base count k)
+  unfoldable pub steps_left : List Step → ℕ → ℕ → Checked
+  steps_left steps p k = steps_found low high (p + 1) (k + 1) (drop k steps)
 
-  pub steps-more : (steps : List Step) (p base count k : ℕ) (d : Step) → k < count → base + k < length steps
-      → steps_left steps p base count k
-      ≡ test (step_right low high (get_or steps (base + k) d)) (Body (p + 1) (k + 1)) (steps_left steps p base count (k + 1))
+  pub steps-more : (steps : List Step) (p k : ℕ) (d : Step) → k < length steps
+      → steps_left steps p k ≡ test (step_right low high (get_or steps k d)) (Err (Body (p + 1) (k + 1))) (steps_left steps p (k + 1))
   unfolding steps_left steps_found
-  steps-more steps p base count k d h l = ap (steps_found low high (p + 1) (k + 1)) (part-more steps base count k d h l)
+  steps-more steps p k d h = ap (steps_found low high (p + 1) (k + 1)) (drop-more steps k d h)
 
-  pub steps-end : (steps : List Step) (p base count k : ℕ) → count ≤ k → steps_left steps p base count k ≡ Accepted
+  pub steps-end : (steps : List Step) (p k : ℕ) → length steps ≤ k → steps_left steps p k ≡ Accepted
   unfolding steps_left steps_found
-  steps-end steps p base count k h = ap (steps_found low high (p + 1) (k + 1)) (part_end steps base count k h)
+  steps-end steps p k h = ap (steps_found low high (p + 1) (k + 1)) (drop_of_length-le steps h)
 
   -- the patterns, from pattern p + 1 on
   unfoldable pub patterns_left : Patterns → ℕ → ℕ → Checked
@@ -114,16 +107,15 @@ module _ (low high : ℤ) where
 
   pub patterns-more : (ps : Patterns) (n p base : ℕ) → p < n → base ≡ sum_to ps.counts p
       → patterns_left ps n p
-      ≡ test (both (leb (get_or ps.runs p 0) 99) (leb (count_at ps p) (capacity_of n))) (Body (p + 1) 0)
-      (then (steps_left ps.steps p base (count_at ps p) 0) (patterns_left ps n (p + 1)))
+      ≡ test (both (leb (get_or ps.runs p 0) 99) (leb (count_at ps p) (capacity_of n))) (Err (Body (p + 1) 0))
+      (then (steps_left (take (count_at ps p) (drop base ps.steps)) p 0) (patterns_left ps n (p + 1)))
   unfolding patterns_left steps_left bodies_found within_capacity
   patterns-more ps n p base h same =
       let right = both (leb (get_or ps.runs p 0) 99) (leb (count_at ps p) (capacity_of n)) in
       let next = bodies_found (within_capacity n) low high (p + 1 + 1) (rest (pattern_in ps) n (p + 1)) in
-      let steps : steps_at ps p ≡ part ps.steps base (count_at ps p) 0 =
-      ap (λ (from : ℕ). take (count_at ps p) (drop from ps.steps)) (sym same) ∙ part-start ps.steps base (count_at ps p) in
+      let steps : steps_at ps p ≡ take (count_at ps p) (drop base ps.steps) = ap (λ (from : ℕ). take (count_at ps p) (drop from ps.steps)) (sym same) in
       ap (bodies_found (within_capacity n) low high (p + 1)) (rest_more (pattern_in ps) n p h)
-      ∙ ap (λ (ss : List Step). test right (Body (p + 1) 0) (then (steps_found low high (p + 1) 1 ss) next)) steps
+      ∙ ap (λ (ss : List Step). test right (Err (Body (p + 1) 0)) (then (steps_found low high (p + 1) 1 ss) next)) steps
 
   pub patterns-end : (ps : Patterns) (n p : ℕ) → n ≤ p → patterns_left ps n p ≡ Accepted
   unfolding patterns_left bodies_found

@@ -1,16 +1,16 @@
 -- A bank read into arrays: its settings and its patterns, or the refusal.
 -- Assumes nothing.
-use Rattle.std.specs.Prelude.{ℕ, List, [], ◌∷◌, ◌++◌, map, replicate}
+use Rattle.std.specs.Prelude.{ℕ, List, [], ◌∷◌, ◌++◌, map, replicate, Result, Ok, Err}
 use Rattle.std.proofs.lemmas.List.Edits.{sets}
 use Rattle.bank.specs.View.{Pattern, patterns_of, no_step}
 use Rattle.setting.specs.Setting.{settings_at}
-use Rattle.setting.specs.Found.{numbers_of, unless}
+use Rattle.setting.specs.Found.{Checked, numbers_of, unless}
 use Rattle.bank.specs.Check.{found_in}
 use Rattle.setting.specs.declared.Settings.{Settings}
 use Rattle.bank.specs.declared.Step.{Step}
 use Rattle.arrays.specs.declared.Patterns.{Patterns}
 use Rattle.arrays.specs.declared.Bank.{Bank}
-use Rattle.setting.specs.declared.Checked.{Checked}
+use Rattle.setting.specs.declared.BankRefusal.{BankRefusal}
 
 -- the steps of patterns, one pattern after the other
 unfoldable pub all_steps : List Pattern → List Step
@@ -25,22 +25,14 @@ laid_out ps = record {
   steps = sets (replicate 99 no_step) 0 (all_steps ps);
 }
 
--- a refusal, and nothing: the settings of no bytes, which are all 0, and no patterns
-unfoldable pub refused_as : Checked → Bank
-refused_as found = record { found = found; settings = settings_at []; patterns = laid_out [] }
+-- an accepted bank reads as its settings and patterns, any other as its refusal
+unfoldable pub read_as : Checked → Settings → List Pattern → Result Bank BankRefusal
+read_as found set ps = unless found Err (Ok (record { settings = set; patterns = laid_out ps }))
 
--- an accepted bank reads as its settings and patterns, any other as its refusal and nothing
-unfoldable pub read_as : Checked → Settings → List Pattern → Bank
-read_as found set ps = unless found refused_as (record { found = found; settings = set; patterns = laid_out ps })
-
-unfoldable pub read_of : List ℕ → Bank
+unfoldable pub read_of : List ℕ → Result Bank BankRefusal
 read_of bank = read_as (found_in bank) (settings_at bank) (patterns_of bank)
 
--- what a call of the reader gives: its answer's numbers, the settings and the patterns
-pub record Given : Type 0 where
-  pub numbers : List ℕ
-  pub settings : Settings
-  pub patterns : Patterns
-
-abbrev pub given : Bank → Given
-given bank = record { numbers = numbers_of bank.found; settings = bank.settings; patterns = bank.patterns }
+-- what a call of the reader gives: a refusal's numbers, or the bank
+abbrev pub given : Result Bank BankRefusal → Result Bank (List ℕ)
+given (Ok bank) = Ok bank
+given (Err refusal) = Err (numbers_of (Err refusal))

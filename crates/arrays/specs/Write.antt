@@ -1,6 +1,6 @@
 -- What the writer of a bank gives and leaves.
 -- Assumes nothing.
-use Rattle.std.specs.Prelude.{ℕ, zero, suc, ◌+◌, Bool, cond, ◌≡◌, List, [], ◌∷◌, leb, length, get_or, take, drop}
+use Rattle.std.specs.Prelude.{ℕ, zero, suc, ◌+◌, Bool, cond, ◌≡◌, List, [], ◌∷◌, leb, length, get_or, take, drop, Result, Ok, Err}
 use Rattle.std.proofs.lemmas.List.Edits.{sets}
 use Rattle.capacity.specs.Capacity.{capacity_of}
 use Rattle.bank.specs.View.{Pattern}
@@ -8,20 +8,21 @@ use Rattle.setting.specs.Found.{numbers_of, unless, then}
 use Rattle.setting.specs.Setting.{settings_found}
 use Rattle.bank.specs.Check.{bodies_found, found_in}
 use Rattle.setting.specs.declared.Settings.{Settings}
-use Rattle.setting.specs.declared.Checked.{Checked}
-use Rattle.setting.specs.declared.Checked.TheVariants.{Accepted}
-use Rattle.arrays.specs.declared.Written.{Written}
-use Rattle.arrays.specs.declared.Written.TheVariants.{Length, Refused, Full}
+use Rattle.arrays.specs.declared.WriteRefusal.{WriteRefusal}
 use Rattle.arrays.specs.declared.Patterns.{Patterns}
 use Rattle.arrays.specs.declared.Bank.{Bank}
 use Rattle.arrays.specs.Read.{laid_out, read_of}
 use Rattle.arrays.specs.Encode.{encode}
+use Rattle.setting.specs.Found.{Checked}
+
+abbrev pub Written : Type 0
+Written = Result ℕ WriteRefusal
 
 -- the document's number and values of each case; 0 with the length is accepted, 15 is a buffer too short
 unfoldable pub written_numbers : Written → List ℕ
-written_numbers (Length size) = 0 ∷ size ∷ []
-written_numbers (Refused found) = numbers_of found
-written_numbers Full = 15 ∷ []
+written_numbers (Ok size) = 0 ∷ size ∷ []
+written_numbers (Err (WriteRefusal.Bank refusal)) = numbers_of (Err refusal)
+written_numbers (Err WriteRefusal.Full) = 15 ∷ []
 
 -- what a call leaves: its answer's numbers and the buffer
 pub record After : Type 0 where
@@ -53,18 +54,18 @@ wrong_in settings ps = then (settings_found settings) (bodies_found (within_capa
 -- a refusal leaves the buffer, and so does 15; else the bank stands at the buffer's front, and the bytes past its end are untouched
 unfoldable pub write_as : Checked → List ℕ → List ℕ → After
 write_as found bank out =
-    unless found (λ f. after (Refused f) out)
-    (cond (leb (length bank) (length out)) (after (Length (length bank)) (sets out 0 bank)) (after Full out))
+    unless found (λ refusal. after (Err (WriteRefusal.Bank refusal)) out)
+    (cond (leb (length bank) (length out)) (after (Ok (length bank)) (sets out 0 bank)) (after (Err WriteRefusal.Full) out))
 
 unfoldable pub write_of : Settings → Patterns → List ℕ → After
 write_of settings ps out = write_as (wrong_in settings (taken_of settings ps)) (encode settings (taken_of settings ps)) out
 
 -- "a bank it wrote reads as what it took": where a length is answered, so many bytes at the front read as the settings and the n patterns
 unfoldable pub taken_bank : Settings → Patterns → Bank
-taken_bank settings ps = record { found = Accepted; settings = settings; patterns = laid_out (taken_of settings ps) }
+taken_bank settings ps = record { settings = settings; patterns = laid_out (taken_of settings ps) }
 
 abbrev pub ReadsBack : Settings → Patterns → Written → List ℕ → Type 0
-ReadsBack settings ps written out = (size : ℕ) → written ≡ Length size → read_of (take size out) ≡ taken_bank settings ps
+ReadsBack settings ps written out = (size : ℕ) → written ≡ Ok size → read_of (take size out) ≡ Ok (taken_bank settings ps)
 
 -- "an accepted bank written again has the same bytes"; a bank that is not accepted gives its refusal
 unfoldable pub rewrite_of : List ℕ → List ℕ → After

@@ -1,10 +1,14 @@
-// A bank as arrays: what is written and what is read. There is no code here.
+// A bank as arrays: what is written and what is read. There is no code here but a conversion.
 #![tactic(auto)]
 
-use bank::Step;
-use setting::{Checked, Settings};
+ghost use Rattle.std.specs.Prelude.{◌≡◌};
+ghost use Rattle.arrays.specs.declared.WriteRefusal.{WriteRefusal};
 
-// The patterns of a bank: runs and count (s) of each, and the steps, those of pattern 1 first.
+use bank::Step;
+use setting::{BankRefusal, Settings};
+
+// The patterns of a bank, as document 01's writer takes them and the C header lays them out: runs and count (s) of each, and the steps,
+// those of pattern 1 first.
 #[derive(Clone, Copy)]
 pub struct Patterns {
     pub runs: [u8; 15],
@@ -12,18 +16,24 @@ pub struct Patterns {
     pub steps: [Step; 99],
 }
 
-// What reading a bank gives: what its check finds and, of an accepted bank, its settings and patterns.
+// A bank: its settings and patterns.
 #[derive(Clone, Copy)]
 pub struct Bank {
-    pub found: Checked,
     pub settings: Settings,
     pub patterns: Patterns,
 }
 
-// What writing a bank gives. `written_numbers` gives the document's number and values of each case.
+// Why no bank is written: its refusal, or a buffer that is too short. `written_numbers` gives the document's number and values of each case.
 #[derive(Clone, Copy)]
-pub enum Written {
-    Length(u16),
-    Refused(Checked),
+pub enum WriteRefusal {
+    Bank(BankRefusal),
     Full,
+}
+
+impl From<BankRefusal> for WriteRefusal {
+    ghost from_gives = { λ refusal made. made ≡ WriteRefusal.Bank refusal };
+
+    fn from(refusal: BankRefusal) -> WriteRefusal {
+        WriteRefusal::Bank(refusal)
+    }
 }

@@ -2,18 +2,24 @@
 -- Assumes nothing.
 use mathlib.Core.Path.{◌≡◌, refl, sym, ap, ◌∙◌, subst}
 use mathlib.Core.Bool.{Bool, true, false, cond}
-use mathlib.Core.List.{List, [], ◌∷◌}
-use Prim.Native.Nat.{ℕ, zero, suc, ◌+◌, ◌*◌, ◌-◌, ◌/◌, ◌≤◌, ◌<◌}
+use mathlib.Core.Logic.{◌⊎◌, inl, inr}
+use mathlib.Core.List.{List, [], ◌∷◌, ◌++◌}
+use Prim.Native.Nat.{ℕ, zero, suc, ◌+◌, ◌*◌, ◌-◌, ◌/◌, ◌≤◌, ◌<◌, min}
 use native.Mathlib.Nat.{div-mul-le_self, mul-le-mul_right, mul_comm, le_trans}
 use native.Mathlib.Omega.{arith}
 use lib.Dec.{leb}
-use lib.IntN.{ℤ}
-use lib.ListN.{length, get_or, get_or-eq_default}
+use lib.IntN.{ℤ, pos}
+use Rattle.setting.proofs.Padded.{zeros-after}
+use lib.ListN.{length, get_or, take, drop, replicate, get_or-eq_default}
+use lib.Seq.{ext_get_or}
+use Rattle.std.proofs.lemmas.List.{get_or-drop}
+use Rattle.std.proofs.lemmas.Slice.{between_to_end}
+use Rattle.std.specs.Array.{AllOfLen}
 use borrow.Author.Tests.{leb-true, leb-false, eqb-true, le-leb}
 use mir.Syntax.{w16}
 use mir.Val.{to_z}
 use Rattle.field.specs.Field.{field, signed_field}
-use Rattle.field.proofs.Laws.{field_past}
+use Rattle.field.proofs.Laws.{field_past, field-same}
 use Rattle.limits.specs.Range.{between}
 use Rattle.capacity.specs.Capacity.{capacity_of}
 use Rattle.bank.specs.View.{Pattern, offset_of, length_of, steps_in, pattern_at, patterns_of, pattern_of, step_of, step_at, numbered, no_step, no_pattern}
@@ -23,25 +29,30 @@ use Rattle.setting.specs.Found.{test}
 use Rattle.setting.specs.Setting.{settings_found, settings_in}
 use Rattle.bank.specs.Check.{pair_right, pairs_from, pairs_found, step_right, steps_found, bodies_found, of_length, found_in}
 use Rattle.bank.specs.declared.Step.{Step}
-use Rattle.setting.specs.declared.Checked.{Checked}
-use Rattle.setting.specs.declared.Checked.TheVariants.{Accepted, Short, Setting, Pair, Body}
+use Rattle.bank.specs.declared.pair.Extent.{Extent}
+use Rattle.bank.specs.Pair.{Gives}
+use Rattle.setting.specs.declared.BankRefusal.{BankRefusal}
+use Rattle.setting.specs.declared.BankRefusal.TheVariants.{Short, Setting, Pair, Body}
 use Rattle.setting.proofs.Laws.{not-accepted, on, both_left, both_right, settings-count}
 pub use Rattle.setting.proofs.Laws.{then-holds}
 use Rattle.field.proofs.Tab.{length-tab, get_or-tab}
+use Rattle.std.specs.Prelude.{Err}
+use Rattle.setting.specs.Found.{Checked}
+use Rattle.setting.specs.Found.{Accepted}
 
 -- ---- a refusal is not Accepted
 
-pub not_short : Short ≡ Accepted → ⊥
-not_short = not-accepted Short refl
+pub not-refusal : (refusal : BankRefusal) → Err refusal ≡ Accepted → ⊥
+not-refusal refusal = not-accepted (Err refusal) refl
 
-pub not-setting : (o : ℕ) → Setting o ≡ Accepted → ⊥
-not-setting o = not-accepted (Setting o) refl
+pub not-setting : (o : ℕ) → Err (Setting o) ≡ Accepted → ⊥
+not-setting o = not-refusal (Setting o)
 
-pub not-pair : (i : ℕ) → Pair i ≡ Accepted → ⊥
-not-pair i = not-accepted (Pair i) refl
+pub not-pair : (i : ℕ) → Err (Pair i) ≡ Accepted → ⊥
+not-pair i = not-refusal (Pair i)
 
-pub not_body : (p k : ℕ) → Body p k ≡ Accepted → ⊥
-not_body p k = not-accepted (Body p k) refl
+pub not_body : (p k : ℕ) → Err (Body p k) ≡ Accepted → ⊥
+not_body p k = not-refusal (Body p k)
 
 -- ---- a pattern and a step of the view, by their numbers
 
@@ -57,6 +68,64 @@ step-beyond bank at h =
           field_past 1 bank (at + 5) (omega arith) i ∷ field_past 1 bank (at + 5 + 1) (omega arith) i
           ∷ field_past 1 bank (at + 5 + 1 + 1) (omega arith) i ∷ field_past 1 bank (at + 5 + 1 + 1 + 1) (omega arith) i ∷ [];
     }
+
+-- a step is what its nine bytes say, wherever they stand
+pub step-same : (a bank : List ℕ) (i j : ℕ) → ((k : ℕ) → k < 9 → get_or a (i + k) 0 ≡ get_or bank (j + k) 0) → step_at a i ≡ step_at bank j
+unfolding step_at signed_field tab
+step-same a bank i j same =
+    λ along. record {
+      target = to_z w16 (at 2 i j 0 (omega arith) (omega arith) (omega arith) along);
+      minutes = at 2 (i + 2) (j + 2) 2 refl refl (omega arith) along;
+      wait = at 1 (i + 4) (j + 4) 4 refl refl (omega arith) along;
+      signals =
+          at 1 (i + 5) (j + 5) 5 refl refl (omega arith) along
+          ∷ at 1 (i + 5 + 1) (j + 5 + 1) 6 (omega arith) (omega arith) (omega arith) along
+          ∷ at 1 (i + 5 + 1 + 1) (j + 5 + 1 + 1) 7 (omega arith) (omega arith) (omega arith) along
+          ∷ at 1 (i + 5 + 1 + 1 + 1) (j + 5 + 1 + 1 + 1) 8 (omega arith) (omega arith) (omega arith) along
+          ∷ [];
+    }
+  where
+    at : (width x y k : ℕ) → x ≡ i + k → y ≡ j + k → k + width ≤ 9 → field width a x ≡ field width bank y
+    at width x y k is is' h =
+        field-same width a bank x y
+        (λ index l.
+        let p : x + index ≡ i + (k + index) = omega arith in
+        let q : y + index ≡ j + (k + index) = omega arith in
+        rw (p, q) (same (k + index) (omega arith)))
+
+-- what stands from an offset on, which may be past the end
+rest-read : (bank : List ℕ) (at from k : ℕ) → from ≡ min at (length bank) → get_or (take (length bank - from) (drop from bank)) k 0 ≡ get_or bank (at + k) 0
+rest-read bank at from k is =
+    ap (λ (xs : List ℕ). get_or xs k 0) (between_to_end bank from (length bank) (omega arith)) ∙ get_or-drop from bank k 0 ∙ go (leb at (length bank)) refl
+  where
+    go : (t : Bool) → leb at (length bank) ≡ t → get_or bank (from + k) 0 ≡ get_or bank (at + k) 0
+    go true told =
+        let h = leb-true at (length bank) told in
+        let same : from ≡ at = omega arith in
+        ap (λ (x : ℕ). get_or bank (x + k) 0) same
+    go false told =
+        let h = leb-false at (length bank) told in
+        get_or-eq_default bank 0 (omega arith) ∙ sym (get_or-eq_default bank 0 (omega arith))
+
+-- the step there is the step of what stands there with zeros behind it
+pub step-padded : (bank front : List ℕ) (at from n : ℕ) → front ≡ take (length bank - from) (drop from bank) → from ≡ min at (length bank)
+    → step_at (front ++ drop n (replicate 9 0)) 0 ≡ step_at bank at
+step-padded bank front at from n same is =
+    step-same _ bank 0 at (λ k h. let k-is : 0 + k ≡ k = omega arith in rw k-is (zeros-after front n 9 k ∙ ap (λ (xs : List ℕ). get_or xs k 0) same ∙ rest-read bank at from k is))
+
+-- a step whose fields are 0
+pub step-default : (step : Step) → (step.target ≡ pos 0) × ((step.minutes ≡ 0) × ((step.wait ≡ 0) × AllOfLen (λ (x : ℕ). x ≡ 0) step.signals 4)) → step ≡ no_step
+unfolding no_step
+step-default step is =
+    let signals = is.1.1.1 in
+    λ i. record { target = is.0 i; minutes = is.1.0 i; wait = is.1.1.0 i; signals = ext_get_or 0 step.signals (0 ∷ 0 ∷ 0 ∷ 0 ∷ []) signals.long (λ k h. signals.at k 0 (omega (arith, signals.long)) ∙ sym (zero_at k)) i }
+  where
+    zero_at : (k : ℕ) → get_or {A = ℕ} (0 ∷ 0 ∷ 0 ∷ 0 ∷ []) k 0 ≡ 0
+    zero_at zero = refl
+    zero_at (suc zero) = refl
+    zero_at (suc (suc zero)) = refl
+    zero_at (suc (suc (suc zero))) = refl
+    zero_at (suc (suc (suc (suc k)))) = refl
 
 -- an entry of a view, counted from 1
 pub numbered-tab : {A : Type 0} (none : A) (f : ℕ → A) (width at m number : ℕ) → 1 ≤ number → number ≤ m
@@ -76,6 +145,10 @@ pub numbered-none : {A : Type 0} (none : A) (xs : List A) (number : ℕ) → num
 unfolding numbered
 numbered-none none xs zero h = refl
 numbered-none none xs (suc i) h = absurd (omega arith)
+
+pub numbered-outside : {A : Type 0} (none : A) (f : ℕ → A) (width at m number : ℕ) → (number < 1) ⊎ (m < number) → numbered none (tab f width at m) number ≡ none
+numbered-outside none f width at m number (inl h) = numbered-none none (tab f width at m) number h
+numbered-outside none f width at m number (inr h) = numbered-past none (tab f width at m) number (omega (arith, length-tab f width at m))
 
 module _ (bank : List ℕ) (p : ℕ) where
   pub pattern-there : between 1 p (field 1 bank 0) ≡ true → pattern_of bank p ≡ pattern_at bank p
@@ -194,6 +267,12 @@ module _ (bank : List ℕ) (n : ℕ) (right : pairs_found bank n ≡ Accepted) w
       let q : 1 + (p - 1) ≡ p = omega arith in
       subst (Fitting bank n) q (pairs-right bank n n 1 _ (p - 1) (test-holds _ _ _ (not-pair 0) right).1 (omega arith))
 
+  -- the body that a pair gives is whole steps, and lies in the bank
+  pub body-inside : (p : ℕ) (body : Extent) → 1 ≤ p → p ≤ n → Gives bank p body → (body.len ≡ 2 + 9 * steps_in body.len) × (body.at + body.len ≤ length bank)
+  body-inside p body p1 pn gives =
+      let fit = pairs-fit p p1 pn in
+      (omega (arith, fit.size, gives.len), omega (arith, fit.inside, gives.at, gives.len))
+
 -- ---- as many patterns as there are, with as many steps as fit, have at most 99 steps
 
 pub capacity-is : (n : ℕ) → 1 ≤ n → n ≤ 15 → capacity_of n ≡ 99 / n
@@ -218,7 +297,7 @@ module _ (bank : List ℕ) (ok : found_in bank ≡ Accepted) where
   unfolding found_in settings_in settings_at
   parts =
       let t = then-holds _ _ ok in
-      let front = test-holds _ _ _ not_short t.0 in
+      let front = test-holds _ _ _ (not-refusal Short) t.0 in
       let v = then-holds _ _ t.1 in
       record { long = leb-true _ _ front.0; settings = front.1; pairs = v.0; bodies = v.1 }
 

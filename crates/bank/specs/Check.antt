@@ -7,8 +7,10 @@ use Rattle.bank.specs.View.{Pattern, offset_of, length_of, steps_in, patterns_of
 use Rattle.setting.specs.Found.{test, then}
 use Rattle.setting.specs.Setting.{settings_at, settings_in}
 use Rattle.bank.specs.declared.Step.{Step}
-use Rattle.setting.specs.declared.Checked.{Checked}
-use Rattle.setting.specs.declared.Checked.TheVariants.{Accepted, Pair, Body}
+use Rattle.setting.specs.declared.BankRefusal.TheVariants.{Pair, Body}
+use Rattle.std.specs.Prelude.{Err}
+use Rattle.setting.specs.Found.{Checked}
+use Rattle.setting.specs.Found.{Accepted}
 
 -- ---- 13: the pairs
 
@@ -19,14 +21,14 @@ pair_right offset len due capacity size =
 
 -- m pairs from pair i on, whose body is due at an offset; each next body is due where the one before ends, and the last ends the bank
 unfoldable pub pairs_from : List ℕ → ℕ → ℕ → ℕ → ℕ → Checked
-pairs_from bank n zero i due = test (eqb due (length bank)) (Pair n) Accepted
+pairs_from bank n zero i due = test (eqb due (length bank)) (Err (Pair n)) Accepted
 pairs_from bank n (suc m) i due =
-    test (pair_right (offset_of bank i) (length_of bank i) due (capacity_of n) (length bank)) (Pair i)
+    test (pair_right (offset_of bank i) (length_of bank i) due (capacity_of n) (length bank)) (Err (Pair i))
     (pairs_from bank n m (i + 1) (due + length_of bank i))
 
 -- pair 0 if the pairs pass the end; the first body starts at 45 + 4n
 unfoldable pub pairs_found : List ℕ → ℕ → Checked
-pairs_found bank n = test (leb (45 + 4 * n) (length bank)) (Pair 0) (pairs_from bank n n 1 (45 + 4 * n))
+pairs_found bank n = test (leb (45 + 4 * n) (length bank)) (Err (Pair 0)) (pairs_from bank n n 1 (45 + 4 * n))
 
 -- ---- 14: the bodies
 
@@ -43,14 +45,14 @@ step_right low high step =
 -- the steps of pattern p, from step k on
 unfoldable pub steps_found : ℤ → ℤ → ℕ → ℕ → List Step → Checked
 steps_found low high p k [] = Accepted
-steps_found low high p k (step ∷ steps) = test (step_right low high step) (Body p k) (steps_found low high p (k + 1) steps)
+steps_found low high p k (step ∷ steps) = test (step_right low high step) (Err (Body p k)) (steps_found low high p (k + 1) steps)
 
 -- the patterns, from pattern p on: runs, s, steps in order. Which s is right is given, since a bank's s is that of its length, and a
 -- writer's is at most the capacity
 unfoldable pub bodies_found : (Pattern → Bool) → ℤ → ℤ → ℕ → List Pattern → Checked
 bodies_found right low high p [] = Accepted
 bodies_found right low high p (x ∷ xs) =
-    test (both (leb x.runs 99) (right x)) (Body p 0)
+    test (both (leb x.runs 99) (right x)) (Err (Body p 0))
     (then (steps_found low high p 1 x.steps) (bodies_found right low high (p + 1) xs))
 
 -- the s of a bank is that of its length

@@ -8,23 +8,23 @@ ghost use Rattle.bank.specs.Check.{found_in};
 
 pub use crate::body::{check_step, step_at};
 pub use crate::view::place_of;
-use setting::Checked;
+use setting::BankRefusal;
 
 mod body;
 mod pair;
 mod view;
 
 // A step as it stands in a bank.
-#[derive(Clone, Copy)]
+#[derive(Clone, Copy, Default)]
 pub struct Step {
     pub target: i16,
     pub minutes: u16, // 6,000 is endless
-    pub wait: u8, // wait number
+    pub wait: u8, // wait number: one out of range has a refusal, 14
     pub signals: [u8; 4], // time signals
 }
 
 // A step, with runs and count (s) of its pattern.
-#[derive(Clone, Copy)]
+#[derive(Clone, Copy, Default)]
 pub struct Place {
     pub step: Step,
     pub count: u8,
@@ -32,7 +32,7 @@ pub struct Place {
 }
 
 // The check of a bank: the first wrong field, in the order of the document.
-pub fn check(bank: &[u8]) -> Checked
+pub fn check(bank: &[u8]) -> Result<(), BankRefusal>
     ensures { numbers_of result ≡ numbers_of (found_in bank.now) }
 {
     body::check(bank)

@@ -3,9 +3,9 @@
 
 ghost use Rattle.std.specs.Prelude.{◌≤◌, length};
 
-use arrays::{Patterns, Written};
+use arrays::{Patterns, WriteRefusal};
 use bank::Step;
-use setting::{Checked, Settings};
+use setting::{BankRefusal, Settings};
 use std::io::Read;
 use std::rt::Files;
 use std::{fs, io};
@@ -38,16 +38,13 @@ fn plain_step(target: i16, minutes: u16) -> Step {
 }
 
 fn example_patterns() -> Patterns {
-    let none = plain_step(0, 0);
-    let first = plain_step(600, 2);
-    let second = plain_step(600, 1);
     let mut runs = [0u8; 15];
     let mut counts = [0u8; 15];
-    let mut steps = [none; 99];
+    let mut steps = [plain_step(0, 0); 99];
     runs[0] = 1;
     counts[0] = 2;
-    steps[0] = first;
-    steps[1] = second;
+    steps[0] = plain_step(600, 2);
+    steps[1] = plain_step(600, 1);
     Patterns {
         runs,
         counts,
@@ -55,77 +52,52 @@ fn example_patterns() -> Patterns {
     }
 }
 
-fn show<R: Print>(rt: &R, x: u64) -> io::Result<()> {
-    println!(rt; "{x}")
+// The numbers of a refusal, one to a line.
+fn show_refusal<R: Print>(rt: &R, refusal: BankRefusal) -> io::Result<()> {
+    match refusal {
+        BankRefusal::Short => println!(rt; "11"),
+        BankRefusal::Setting(offset) => println!(rt; "12\n{offset}"),
+        BankRefusal::Pair(pair) => println!(rt; "13\n{pair}"),
+        BankRefusal::Body(pattern, step) => println!(rt; "14\n{pattern}\n{step}"),
+    }
 }
 
-// The numbers of what a check finds, one to a line.
-fn show_checked<R: Print>(rt: &R, found: Checked) -> io::Result<()> {
+// The numbers of what a check finds.
+fn show_checked<R: Print>(rt: &R, found: Result<(), BankRefusal>) -> io::Result<()> {
     match found {
-        Checked::Accepted => show(rt, 0),
-        Checked::Short => show(rt, 11),
-        Checked::Setting(offset) => {
-            show(rt, 12)?;
-            show(rt, offset as u64)
-        }
-        Checked::Pair(pair) => {
-            show(rt, 13)?;
-            show(rt, pair as u64)
-        }
-        Checked::Body(pattern, step) => {
-            show(rt, 14)?;
-            show(rt, pattern as u64)?;
-            show(rt, step as u64)
-        }
+        Ok(()) => println!(rt; "0"),
+        Err(refusal) => show_refusal(rt, refusal),
     }
 }
 
 // The numbers of what the writer gives, and the length of the bank that it wrote.
-fn show_written<R: Print>(rt: &R, written: Written) -> io::Result<usize> {
+fn show_written<R: Print>(rt: &R, written: Result<u16, WriteRefusal>) -> io::Result<usize> {
     match written {
-        Written::Length(size) => {
-            show(rt, 0)?;
-            show(rt, size as u64)?;
-            Ok(size as usize)
+        Ok(size) => {
+            println!(rt; "0\n{size}")?;
+            return Ok(size as usize);
         }
-        Written::Refused(found) => {
-            show_checked(rt, found)?;
-            Ok(0)
-        }
-        Written::Full => {
-            show(rt, 15)?;
-            Ok(0)
-        }
+        Err(WriteRefusal::Bank(refusal)) => show_refusal(rt, refusal)?,
+        Err(WriteRefusal::Full) => println!(rt; "15")?,
     }
+    Ok(0)
 }
 
-// The first place at which two banks differ: the length of the shorter where one begins with the other.
-fn difference(written: &[u8], stored: &[u8]) -> usize {
-    let mut i: usize = 0;
-    while i < written.len() {
-        if stored.len() <= i {
-            return i;
-        }
-        if written[i] != stored[i] {
-            return i;
-        }
-        i += 1;
-    }
-    i
-}
-
+// The first place at which two banks differ, or the length of the shorter where the other begins with it.
 fn compare<R: Print>(rt: &R, written: &[u8], stored: &[u8]) -> io::Result<()> {
-    let at = difference(written, stored);
-    if at < written.len() {
-        return show(rt, at as u64);
+    if written == stored {
+        return println!(rt; "same");
     }
-    if at < stored.len() {
-        return show(rt, at as u64);
-    }
-    println!(rt; "same")
+    let place = written
+        .iter()
+        .zip(stored)
+        .position(|(left, right)| left != right);
+    let at = place.unwrap_or(written.len().min(stored.len()));
+    println!(rt; "{at}")
 }
 
 // A file is read to its end, until the buffer is full or a read fails: how many of the buffer's bytes are the file's.
+// Each read says by how much the place moves on, so no iterator walks the buffer.
 fn read_full<F: Read>(file: &mut F, buffer: &mut [u8]) -> usize
     ensures { result ≤ length buffer.new }
 {
@@ -139,27 +111,25 @@ fn read_full<F: Read>(file: &mut F, buffer: &mut [u8]) -> usize
     size
 }
 
-// The bank at the front of a buffer is checked, and compared with the bank that is stored in a file.
-fn judge<R: Files + Print + Eprint>(rt: &R, buffer: [u8; 1011], size: usize) -> io::Result<()> {
-    if 1011 < size {
-        return Ok(());
-    }
-    show_checked(rt, bank::check(&buffer[..size]))?;
+// A bank is checked, and compared with the bank that is stored in a file.
+fn judge<R: Files + Print + Eprint>(rt: &R, bank: &[u8]) -> io::Result<()> {
+    show_checked(rt, bank::check(bank))?;
     match fs::open(rt, "bank.bin") {
         Err(error) => eprintln!(rt; "bank.bin: {error}"),
         Ok(mut file) => {
             let mut stored = [0u8; 4096];
             let count = read_full(&mut file, &mut stored);
-            compare(rt, &buffer[..size], &stored[..count])
+            compare(rt, bank, &stored[..count])
         }
     }
 }
 
 fn main(rt: HostRuntime) -> io::Result<()> {
     let mut buffer = [0u8; 1011];
-    let size = show_written(
-        &rt,
-        writer::write(example_settings(), example_patterns(), &mut buffer),
-    )?;
-    judge(&rt, buffer, size)
+    let written = writer::write(example_settings(), example_patterns(), &mut buffer);
+    let size = show_written(&rt, written)?;
+    match buffer.get(..size) {
+        Some(bank) => judge(&rt, bank),
+        None => Ok(()),
+    }
 }

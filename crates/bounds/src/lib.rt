@@ -26,16 +26,15 @@ pub fn cleared() -> Alarms
 }
 
 // What a move to a mode leaves: one to stopped clears.
+#[tactic(auto, unfolding(alarm::specs::Alarm::kept_in))]
 pub fn kept_in(mode: u8, alarms: Alarms) -> Alarms
     ensures { result ≡ kept_in mode alarms }
 {
-    if mode == 0 {
-        return cleared();
-    }
-    alarms
+    if mode == 0 { cleared() } else { alarms }
 }
 
 // Whether an alarm is cleared.
+#[tactic(auto, unfolding(position::specs::Tests::both, alarm::specs::Idle::is_clear))]
 fn is_clear(alarm: Alarm) -> bool
     ensures { result ≡ is_clear alarm }
 {
@@ -43,36 +42,40 @@ fn is_clear(alarm: Alarm) -> bool
 }
 
 // Whether all are.
+#[tactic(auto, unfolding(position::specs::Tests::both, position::specs::Tests::all, alarm::specs::Idle::all_are_clear))]
 pub fn are_clear(alarms: Alarms) -> bool
     ensures { result ≡ all_are_clear alarms }
 {
-    let first = is_clear(alarms.first);
-    let second = is_clear(alarms.second);
-    let third = is_clear(alarms.third);
-    first & (second & (third & is_clear(alarms.fourth)))
+    is_clear(alarms.first)
+        & is_clear(alarms.second)
+        & is_clear(alarms.third)
+        & is_clear(alarms.fourth)
 }
 
 // Whether an alarm is within its bounds.
+#[tactic(auto, unfolding(position::specs::Tests::both, position::specs::Tests::either, position::specs::Tests::all, alarm::specs::Idle::is_clear, alarm::specs::Alarm::bounded))]
 fn is_bounded(mode: u8, setting: AlarmSetting, alarm: Alarm) -> bool
     ensures { result ≡ bounded mode setting alarm }
 {
-    let flags = alarm.flags;
-    let rest = (alarm.count <= setting.delay) & (!(mode == 0) | is_clear(alarm));
-    if setting.flags / 2 % 2 == 1 {
-        return (flags <= 3) & (!(flags == 1) & rest);
-    }
-    (flags <= 3) & ((flags <= 1) & rest)
+    let has_standby = setting.flags / 2 % 2 == 1;
+    let flags = if has_standby {
+        alarm.flags != 1
+    } else {
+        alarm.flags <= 1
+    };
+    (alarm.flags <= 3) & flags & (alarm.count <= setting.delay) & ((mode != 0) | is_clear(alarm))
 }
 
 // Whether all are. Cleared alarms are, whatever the settings and the mode.
+#[tactic(auto, unfolding(position::specs::Tests::both, position::specs::Tests::all, alarm::specs::Alarm::all_bounded), using(alarm::proofs::Short::clear_within))]
 pub fn within_bounds(settings: AlarmSettings, mode: u8, alarms: Alarms) -> bool
     ensures { result ≡ all_bounded settings mode alarms }
 {
     if are_clear(alarms) {
         return true;
     }
-    let first = is_bounded(mode, settings.first, alarms.first);
-    let second = is_bounded(mode, settings.second, alarms.second);
-    let third = is_bounded(mode, settings.third, alarms.third);
-    first & (second & (third & is_bounded(mode, settings.fourth, alarms.fourth)))
+    is_bounded(mode, settings.first, alarms.first)
+        & is_bounded(mode, settings.second, alarms.second)
+        & is_bounded(mode, settings.third, alarms.third)
+        & is_bounded(mode, settings.fourth, alarms.fourth)
 }

@@ -9,12 +9,10 @@ use lib.IntN.{pos, negsuc}
 use lib.ListN.{take, drop, replicate}
 use Rattle.field.specs.Field.{num, field, signed_field, digits}
 use Rattle.field.specs.Row.{row, total}
-use Rattle.setting.specs.declared.Checked.TheVariants.{Accepted}
 use Rattle.bank.specs.Check.{found_in}
 use Rattle.measure.specs.declared.Measured.{Measured}
 use Rattle.position.specs.Tests.{both}
 use Rattle.alarm.specs.Alarm.{all_in_range}
-use Rattle.plain.specs.declared.Answer.{Answer}
 use Rattle.plain.specs.declared.Refusal.{Refusal}
 use Rattle.plain.specs.Answer.{number_of, is_accepted}
 use Rattle.plain.specs.Event.{State, After}
@@ -26,6 +24,9 @@ use Rattle.calls.specs.Carried.{kind_of, bits_of, state_size, rest_from, state_b
 use Rattle.calls.specs.Config.{alarm_setting_at}
 use Rattle.calls.specs.Calls.{After as AfterCall, run_over}
 use Rattle.calls.proofs.Meets.{no-setting}
+use Rattle.std.specs.Prelude.{Ok, Err}
+use Rattle.plain.specs.declared.AnyRefusal.{AnyRefusal}
+use Rattle.setting.specs.Found.{Accepted}
 
 -- ---- a state as bytes
 
@@ -121,12 +122,12 @@ unfolding signal_bits
 signals-apart = refl
 
 -- a set value below 0 does not reach the signals: −1 is 65,535 at bit 32
-pub value-apart : result_of (Answer.Accepted (record { value = negsuc 0; signals = record { first = true; second = true; third = false; fourth = false } }))
+pub value-apart : result_of (Ok (record { value = negsuc 0; signals = record { first = true; second = true; third = false; fourth = false } }))
     ≡ 1125895611875328
 unfolding result_of signal_bits
 value-apart = refl
 
 -- a refusal has the document's number
-pub refusal-number : (refusal : Refusal) → result_of (Answer.Refused refusal) ≡ number_of refusal
+pub refusal-number : (refusal : Refusal) → result_of (Err (AnyRefusal.Own refusal)) ≡ number_of refusal
 unfolding result_of
 refusal-number refusal = refl

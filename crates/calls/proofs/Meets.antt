@@ -4,8 +4,9 @@ use Prim.Native.Nat.{ℕ}
 use mathlib.Core.Path.{◌≡◌, ap, ◌∙◌}
 use mathlib.Core.Bool.{true, false}
 use mathlib.Core.List.{List}
-use Rattle.setting.specs.Found.{numbers_of as bank_numbers, is_accepted as passes}
-use Rattle.setting.specs.declared.Checked.TheVariants.{Accepted}
+use Rattle.setting.specs.Found.{numbers_of as bank_numbers, Accepted}
+use Rattle.setting.specs.declared.BankRefusal.{BankRefusal}
+use Rattle.std.specs.Prelude.{Err}
 use Rattle.bank.specs.Check.{found_in}
 use Rattle.alarm.specs.Alarm.{all_in_range}
 use Rattle.plain.specs.Record.{sized}
@@ -29,8 +30,8 @@ module _ (setup : Setup) (store state events : List ℕ) where
   unfolding run_over
   no-list listed = rw listed
 
-  pub bank-refused : formed events ≡ true → passes (found_in setup.bank) ≡ false
-      → run_over store state events setup ≡ after (packed (bank_numbers (found_in setup.bank))) store state
+  pub bank-refused : {refusal : BankRefusal} → formed events ≡ true → found_in setup.bank ≡ Err refusal
+      → run_over store state events setup ≡ after (packed (bank_numbers (Err refusal))) store state
   unfolding run_over
   bank-refused listed wrong = rw (listed, wrong)
 

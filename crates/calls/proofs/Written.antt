@@ -6,9 +6,6 @@ use mathlib.Core.Bool.{Bool, true, false, cond, false≢true}
 use mathlib.Core.List.{List, [], ◌∷◌, ◌++◌, append_assoc, append-nil}
 use native.Mathlib.Omega.{arith}
 use borrow.Rule.Slice.PartMut.{put_mid}
-use denote.Enum.Declared.{tag_of}
-use types.Run.{OneOf}
-use mathlib.Core.Logic.{⊎_elim}
 use borrow.Author.Tests.{eqb-true}
 use lib.ListN.{length, take, drop, get_or, set, length-set, length-replicate}
 use lib.Seq.{sets, sets-eq, length-sets, drop-drop, take_at, set_out, drop-set-lt}
@@ -16,7 +13,8 @@ use Rattle.field.specs.Field.{field, digits}
 use Rattle.field.specs.Row.{row, row_at, total}
 use Rattle.field.proofs.Laws.{Bytes}
 use Rattle.field.proofs.Rows.{length-row, row-append, length-row_at, sets-all}
-use Rattle.setting.specs.Found.{is_accepted as passes}
+use Rattle.setting.specs.Found.{Checked, Accepted}
+use Rattle.setting.specs.declared.BankRefusal.{BankRefusal}
 use Rattle.bank.specs.Check.{found_in}
 use Rattle.position.specs.declared.Position.{Position}
 use Rattle.position.proofs.Tests.{both_left}
@@ -26,15 +24,13 @@ use Rattle.plain.specs.declared.Run.{Run}
 use Rattle.plain.specs.declared.Credit.{Credit}
 use Rattle.plain.specs.declared.Event.{Event}
 use Rattle.plain.specs.declared.Refusal.{Refusal}
-use Rattle.plain.specs.declared.Answer.{Answer}
 use Rattle.plain.specs.declared.Effect.{Effect}
 use Rattle.plain.specs.Record.{Checkpoint, widths_of, numbers_in, position_widths, position_numbers, credit_widths, parts, record_size, alarms_from, record_of, credits_in}
 use Rattle.plain.specs.Setup.{Setup}
 use Rattle.plain.specs.Run.{cooked, credited}
-use Rattle.plain.specs.Answer.{is_accepted}
+use Rattle.plain.specs.Answer.{is_accepted, Answer}
 use Rattle.plain.specs.Refusals.{Row, event_rows}
 use Rattle.plain.specs.Event.{State, After, applied, unchanged, refused, cut_effect, accepted_effect, retained_in, known_effect, event_effect, event_outcome, make_outcome}
-use Rattle.plain.specs.contracts.Answer.{the_type}
 use Rattle.plain.proofs.Judged.{Met, judged-cases}
 use Rattle.plain.proofs.Effects.{by-event}
 use Rattle.plain.proofs.Record.{Paired, length-parts, put-parts}
@@ -42,6 +38,8 @@ use Rattle.calls.specs.Carried.{checkpoint_of, rest_part, state_parts, state_siz
 use Rattle.calls.specs.Carried.{kind_of, bits_of, AfterCarried, after_carried, carried_out, roomy, make_carried, event_carried}
 use Rattle.calls.proofs.Place.{rows_stay, rows-after, number_at, number-set}
 use Rattle.calls.proofs.Round.{rows-from, kind-below}
+use Rattle.std.specs.Prelude.{Ok, Err}
+use Rattle.plain.specs.declared.AnyRefusal.{AnyRefusal}
 
 -- ---- what is left, carried
 
@@ -215,38 +213,32 @@ module _ (state : State) (many : length state.credits ≡ 99) where
 -- ---- answers
 
 abbrev pub is_bank : Answer → Bool
-is_bank (Answer.Accepted shown) = false
-is_bank (Answer.Bank found) = true
-is_bank (Answer.Refused refusal) = false
-
--- the cases of an answer that a test for the bank's refusals leaves
-pub not-bank : (answer : Answer) → OneOf (0 ∷ 2 ∷ []) (tag_of the_type answer) → is_bank answer ≡ false
-not-bank (Answer.Accepted shown) h = refl
-not-bank (Answer.Bank found) h = absurd (⊎_elim (λ x. omega arith) (λ x. omega arith) h)
-not-bank (Answer.Refused refusal) h = refl
+is_bank (Ok shown) = false
+is_bank (Err (AnyRefusal.Bank found)) = true
+is_bank (Err (AnyRefusal.Own refusal)) = false
 
 -- ---- making
 
 module _ (setup : Setup) (store bytes : List ℕ) where
   -- the bank's refusals come first
-  pub make-bank-first : passes (found_in setup.bank) ≡ false → after_carried (Answer.Bank (found_in setup.bank)) store bytes ≡ make_carried setup store bytes
+  pub make-bank-first : {refusal : BankRefusal} → found_in setup.bank ≡ Err refusal → after_carried (Err (AnyRefusal.Bank refusal)) store bytes ≡ make_carried setup store bytes
   unfolding make_carried
   make-bank-first denied = sym (rw denied)
 
   -- then 21 for a buffer without room
-  pub make-no-room : passes (found_in setup.bank) ≡ true → roomy bytes ≡ false
-      → after_carried (Answer.Refused Refusal.Unsound) store bytes ≡ make_carried setup store bytes
+  pub make-no-room : found_in setup.bank ≡ Accepted → roomy bytes ≡ false
+      → after_carried (Err (AnyRefusal.Own Refusal.Unsound)) store bytes ≡ make_carried setup store bytes
   unfolding make_carried
   make-no-room ok small = sym (rw (ok, small))
 
   -- with room it leaves what making leaves
   pub make-left : roomy bytes ≡ true → carried_out bytes (make_outcome setup store) ≡ make_carried setup store bytes
   unfolding make_carried make_outcome carried_out is_accepted
-  make-left room = go (passes (found_in setup.bank)) refl
+  make-left room = go (found_in setup.bank) refl
     where
-      go : (x : Bool) → passes (found_in setup.bank) ≡ x → carried_out bytes (make_outcome setup store) ≡ make_carried setup store bytes
-      go true ok = sym (rw (ok, room))
-      go false denied = rw denied
+      go : (found : Checked) → found_in setup.bank ≡ found → carried_out bytes (make_outcome setup store) ≡ make_carried setup store bytes
+      go (Ok done) ok = sym (rw (ok, room))
+      go (Err refusal) denied = rw denied
 
 -- ---- an event
 
@@ -264,7 +256,7 @@ refused-saves setup store power run event =
     accepts (Event.Return reading) = refl
 
 -- over an accepted bank no event is answered with a refusal of the bank
-pub known-answers : (setup : Setup) (store : List ℕ) (power : Bool) (run : Run) (event : Event) → passes (found_in setup.bank) ≡ true
+pub known-answers : (setup : Setup) (store : List ℕ) (power : Bool) (run : Run) (event : Event) → found_in setup.bank ≡ Accepted
     → is_bank (event_effect setup store power run event).answer ≡ false
 unfolding event_effect known_effect cut_effect
 known-answers setup store power run event ok =
@@ -307,41 +299,41 @@ module _ (setup : Setup) (store bytes : List ℕ) (event : Event) where
   left = event_carried setup store bytes event
 
   -- over a bank that is refused
-  refused-effect : passes (found_in setup.bank) ≡ false → effect ≡ unchanged power run (Answer.Bank (found_in setup.bank))
+  refused-effect : {refusal : BankRefusal} → found_in setup.bank ≡ Err refusal → effect ≡ unchanged power run (Err (AnyRefusal.Bank refusal))
   unfolding event_effect
   refused-effect denied = rw denied
 
-  refused-left : passes (found_in setup.bank) ≡ false → left ≡ after_carried (Answer.Bank (found_in setup.bank)) store bytes
+  refused-left : {refusal : BankRefusal} → found_in setup.bank ≡ Err refusal → left ≡ after_carried (Err (AnyRefusal.Bank refusal)) store bytes
   unfolding event_carried
   refused-left denied = rw denied
 
   -- and over one that is accepted
-  known-effect : passes (found_in setup.bank) ≡ true → is_bank effect.answer ≡ false
+  known-effect : found_in setup.bank ≡ Accepted → is_bank effect.answer ≡ false
   known-effect = known-answers setup store power run event
 
-  known-left : passes (found_in setup.bank) ≡ true
-      → left ≡ cond (is_state bytes) (carried_out bytes (event_outcome setup store (state_in bytes) event)) (after_carried (Answer.Refused Refusal.Unsound) store bytes)
+  known-left : found_in setup.bank ≡ Accepted
+      → left ≡ cond (is_state bytes) (carried_out bytes (event_outcome setup store (state_in bytes) event)) (after_carried (Err (AnyRefusal.Own Refusal.Unsound)) store bytes)
   unfolding event_carried
   known-left ok = rw ok
 
   -- the bank's refusals come first
   pub bank-first : is_bank effect.answer ≡ true → after_carried effect.answer store bytes ≡ left
-  bank-first h = go (passes (found_in setup.bank)) refl
+  bank-first h = go (found_in setup.bank) refl
     where
-      go : (x : Bool) → passes (found_in setup.bank) ≡ x → after_carried effect.answer store bytes ≡ left
-      go true ok = absurd (false≢true (sym (known-effect ok) ∙ h))
-      go false denied = ap (λ (x : Effect). after_carried x.answer store bytes) (refused-effect denied) ∙ sym (refused-left denied)
+      go : (found : Checked) → found_in setup.bank ≡ found → after_carried effect.answer store bytes ≡ left
+      go (Ok done) ok = absurd (false≢true (sym (known-effect ok) ∙ h))
+      go (Err refusal) denied = ap (λ (x : Effect). after_carried x.answer store bytes) (refused-effect denied) ∙ sym (refused-left denied)
 
   module _ (other : is_bank effect.answer ≡ false) where
-    passed : passes (found_in setup.bank) ≡ true
-    passed = go (passes (found_in setup.bank)) refl
+    passed : found_in setup.bank ≡ Accepted
+    passed = go (found_in setup.bank) refl
       where
-        go : (x : Bool) → passes (found_in setup.bank) ≡ x → x ≡ true
-        go true ok = refl
-        go false denied = absurd (false≢true (sym other ∙ ap (λ (x : Effect). is_bank x.answer) (refused-effect denied)))
+        go : (found : Checked) → found_in setup.bank ≡ found → found ≡ Accepted
+        go (Ok done) ok = refl
+        go (Err refusal) denied = absurd (false≢true (sym other ∙ ap (λ (x : Effect). is_bank x.answer) (refused-effect denied)))
 
     -- then 21 for bytes that are no state
-    pub no-state : is_state bytes ≡ false → after_carried (Answer.Refused Refusal.Unsound) store bytes ≡ left
+    pub no-state : is_state bytes ≡ false → after_carried (Err (AnyRefusal.Own Refusal.Unsound)) store bytes ≡ left
     no-state denied = sym (known-left passed ∙ rw denied)
 
     -- a refusal leaves record and bytes

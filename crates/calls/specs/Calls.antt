@@ -12,7 +12,6 @@ use Rattle.arrays.specs.Write.{After as Wrote, write_of}
 use Rattle.position.specs.Tests.{both}
 use Rattle.alarm.specs.Alarm.{all_in_range}
 use Rattle.plain.specs.declared.Config.{Config}
-use Rattle.plain.specs.declared.Asked.{Asked}
 use Rattle.plain.specs.declared.Refusal.{Refusal}
 use Rattle.plain.specs.Record.{sized}
 use Rattle.plain.specs.Setup.{Setup, over, Usable}
@@ -24,6 +23,8 @@ use Rattle.demand.specs.Demand.{Demand3}
 use Rattle.calls.specs.Result.{packed, result_of}
 use Rattle.calls.specs.Config.{config_sized, config_in}
 use Rattle.calls.specs.Carried.{AfterCarried, state_bytes, state_in, roomy, make_carried, event_carried}
+use Rattle.std.specs.Prelude.{Option, None, Some, Err}
+use Rattle.plain.specs.declared.Event.{Event}
 
 -- ---- cook_check
 
@@ -79,9 +80,9 @@ make_leaves bank config store state = configured bank config store state (make_o
 
 -- ---- cook_event: a kind above 14 is 99
 
-abbrev pub asked_over : List ℕ → List ℕ → Asked → Setup → After
-asked_over store state Asked.NoForm setup = after 99 store state
-asked_over store state (Asked.Of event) setup = resulting (event_carried setup store state event)
+abbrev pub asked_over : List ℕ → List ℕ → Option Event → Setup → After
+asked_over store state None setup = after 99 store state
+asked_over store state (Some event) setup = resulting (event_carried setup store state event)
 
 unfoldable pub event_leaves : List ℕ → List ℕ → List ℕ → List ℕ → ℕ → ℤ → After
 event_leaves bank config store state kind v = configured bank config store state (asked_over store state (event_of_kind kind v))
@@ -99,7 +100,7 @@ fitting config store state = both (both (roomy state) (sized store)) (all_in_ran
 unfoldable pub run_over : List ℕ → List ℕ → List ℕ → Setup → After
 run_over store state events setup =
     cond (formed events)
-    (unless (found_in setup.bank) (λ found. after (packed (bank_numbers found)) store state)
+    (unless (found_in setup.bank) (λ refusal. after (packed (bank_numbers (Err refusal))) store state)
     (judged ((Refusal.Unsound, not (roomy state)) ∷ call_rows setup (retained_in setup store)) (λ refusal. after (number_of refusal) store state)
     (list_leaves (final setup store (events_in events)))))
     (after 99 store state)

@@ -9,14 +9,15 @@ use Rattle.field.specs.Row.{row}
 use Rattle.bank.specs.Check.{found_in}
 use Rattle.measure.specs.declared.Measured.{Measured}
 use Rattle.position.specs.Tests.{both}
-use Rattle.plain.specs.declared.Answer.{Answer}
 use Rattle.plain.specs.declared.Event.{Event}
 use Rattle.plain.specs.declared.Refusal.{Refusal}
 use Rattle.plain.specs.Record.{Part, widths_of, size_of, numbers_in, Checkpoint, parts, record_size, position_in, credits_in, alarms_in}
 use Rattle.plain.specs.Setup.{Setup}
-use Rattle.plain.specs.Answer.{is_accepted}
+use Rattle.plain.specs.Answer.{is_accepted, Answer}
 use Rattle.plain.specs.Refusals.{checked}
 use Rattle.plain.specs.Event.{State, After, checkpoint_for, event_outcome, make_outcome}
+use Rattle.std.specs.Prelude.{Err}
+use Rattle.plain.specs.declared.AnyRefusal.{AnyRefusal}
 
 -- ---- the bytes of a state
 
@@ -118,7 +119,7 @@ carried_out bytes left = after_carried left.answer left.store (cond (is_accepted
 abbrev pub carried_if : Bool → Setup → List ℕ → List ℕ → AfterCarried → AfterCarried
 carried_if right setup store bytes next =
     checked (found_in setup.bank) (λ answer. after_carried answer store bytes)
-    (cond right next (after_carried (Answer.Refused Refusal.Unsound) store bytes))
+    (cond right next (after_carried (Err (AnyRefusal.Own Refusal.Unsound)) store bytes))
 
 unfoldable pub make_carried : Setup → List ℕ → List ℕ → AfterCarried
 make_carried setup store bytes = carried_if (roomy bytes) setup store bytes (carried_out bytes (make_outcome setup store))

@@ -1,16 +1,16 @@
 -- The bytes of a state's parts, as the code writes them, and what carrying out an effect leaves.
 -- Assumes nothing.
-use Rattle.std.specs.Prelude.{ℕ, ◌≡◌, true, List, [], ◌∷◌, length, drop}
+use Rattle.std.specs.Prelude.{ℕ, List, [], ◌∷◌, drop}
 use Rattle.field.specs.Row.{row}
 use Rattle.position.specs.declared.Position.{Position}
 use Rattle.alarm.specs.declared.Alarms.{Alarms}
 use Rattle.plain.specs.declared.Run.{Run}
 use Rattle.plain.specs.declared.Credit.{Credit}
 use Rattle.plain.specs.declared.Effect.{Effect}
-use Rattle.plain.specs.Record.{record_of, credits_in, sized}
+use Rattle.plain.specs.Record.{record_of, credits_in}
 use Rattle.plain.specs.Run.{credited}
 use Rattle.plain.specs.Event.{After, applied}
-use Rattle.calls.specs.Carried.{AfterCarried, after_carried, kind_of, bits_of, state_bytes, state_size}
+use Rattle.calls.specs.Carried.{AfterCarried, after_carried, kind_of, bits_of, state_bytes}
 
 -- u, the measured kind, the bits of y
 abbrev pub rest_bytes : Run → List ℕ
@@ -26,8 +26,3 @@ abbrev pub carried_by : List ℕ → List ℕ → Effect → AfterCarried
 carried_by store bytes effect =
     let left : After = applied store (credits_in (drop 1 bytes)) effect in
     after_carried left.answer left.store (state_bytes left.state)
-
--- what carrying out an effect asks: the bytes of a state, and a record of its size where it saves
-pub record Carries (store bytes : List ℕ) (effect : Effect) : Type 0 where
-  pub long : length bytes ≡ state_size
-  pub whole : effect.saves ≡ true → sized store ≡ true

@@ -1,64 +1,43 @@
 // The state that bytes are.
-ghost use Rattle.std.specs.Prelude.{◌≡◌, drop};
-ghost use Rattle.plain.specs.Record.{position_in, alarms_in};
-ghost use Rattle.calls.specs.Carried.{state_in, is_state};
+ghost use Rattle.std.specs.Prelude.{◌≡◌};
+ghost use Rattle.calls.specs.Carried.{state_in, bits_right, is_state};
 
-use crate::value::{is_nan, measured_as};
+use crate::value::measured_as;
 use crate::{REST, SIZE};
-use alarm::Alarms;
 use field::{byte, quad};
 use plain::Run;
-use position::Position;
+use std::num::f64_from_bits_with_nan;
 
-// The position, behind the byte of power.
-fn position_in(bytes: &[u8]) -> Position
-    ensures { result ≡ position_in (drop 1 bytes.now) }
-{
-    if bytes.len() < 1 {
-        return checkpoint::read_position(bytes);
-    }
-    checkpoint::read_position(&bytes[1..])
-}
-
-// The alarms, in the record's place.
-fn alarms_in(bytes: &[u8]) -> Alarms
-    ensures { result ≡ alarms_in (drop 1 bytes.now) }
-{
-    if bytes.len() < 1 {
-        return alarm_part::read_alarms(bytes);
-    }
-    alarm_part::read_alarms(&bytes[1..])
-}
-
-// The run. Bytes past the end read as 0.
-pub fn run_in(bytes: &[u8]) -> Run
+// The run.
+pub fn run_in(bytes: &[u8; SIZE]) -> Run
     ensures { result ≡ (state_in bytes.now).run }
 {
+    let record = &bytes[1..]; // behind the byte of power
     Run {
-        position: position_in(bytes),
+        position: checkpoint::read_position(record),
         unsaved: byte(bytes, REST),
         measured: measured_as(byte(bytes, REST + 1), quad(bytes, REST + 2)),
-        alarms: alarms_in(bytes),
+        alarms: alarm_part::read_alarms(record),
     }
 }
 
-// Whether bytes are a state: size, power, kind, y.
-pub fn is_state(bytes: &[u8]) -> bool
-    ensures { result ≡ is_state bytes.now }
+// Whether the bits of y are right: no NaN's with a value, 0 without one.
+#[tactic(auto, unfolding(calls::specs::Carried::bits_right))]
+fn bits_right(kind: u8, bits: u64) -> bool
+    ensures { result ≡ bits_right kind bits }
 {
-    if bytes.len() != SIZE {
-        return false;
-    }
-    if 1 < byte(bytes, 0) {
-        return false;
-    }
-    let kind = byte(bytes, REST + 1);
-    if 3 < kind {
-        return false;
-    }
-    let bits = quad(bytes, REST + 2);
     if kind == 3 {
-        return !is_nan(bits);
+        return !f64_from_bits_with_nan(bits).is_nan();
     }
     bits == 0
+}
+
+// Whether bytes of a state's size are a state: power, kind, y.
+#[tactic(auto, unfolding(calls::specs::Carried::is_state, calls::specs::Carried::roomy, position::specs::Tests::both, field::specs::Row::total, plain::specs::Record::widths_of, plain::specs::Record::credit_widths))]
+pub fn is_state(bytes: &[u8; SIZE]) -> bool
+    ensures { result ≡ is_state bytes.now }
+{
+    byte(bytes, 0) <= 1
+        && byte(bytes, REST + 1) <= 3
+        && bits_right(byte(bytes, REST + 1), quad(bytes, REST + 2))
 }

@@ -7,8 +7,7 @@ ghost use Rattle.position.specs.declared.Command.{Command};
 ghost use Rattle.command.specs.Moves.{Takes};
 
 use crate::shift::{minus, plus};
-use measure::Whole;
-use plain::{Move, Refusal};
+use plain::Refusal;
 use position::{Command, Here, Position};
 use retained::stopped;
 use setting::Settings;
@@ -17,40 +16,35 @@ use setting::Settings;
 fn selects(settings: Settings, pressed: Command) -> bool
     ensures { result ≡ selects_of settings pressed }
 {
-    if let Command::Select(q) = pressed {
-        return (1 <= q) & (q <= settings.patterns as i32);
+    match pressed {
+        Command::Select(q) => (1 <= q) & (q <= settings.patterns as i32),
+        _ => true,
     }
-    true
 }
 
 // Whether a mode takes a command.
+#[tactic(auto, unfolding(position::specs::Command::takes_of, position::specs::Tests::either))]
 fn takes(pressed: Command, mode: u8) -> bool
     ensures { result ≡ takes_of pressed mode }
 {
     match pressed {
-        Command::Select(_) => (mode == 0) | (mode == 3),
-        Command::Start => (mode == 0) | (mode == 3),
-        Command::Pause => (mode == 1) | (mode == 2),
-        Command::Reset => (mode == 1) | ((mode == 2) | (mode == 3)),
-        Command::Feed => (mode == 1) | (mode == 2),
-        Command::Back => (mode == 1) | (mode == 2),
-        Command::Plus => (mode == 1) | (mode == 2),
-        Command::Minus => (mode == 1) | (mode == 2),
+        Command::Select(_) | Command::Start => matches!(mode, 0 | 3),
+        Command::Reset => matches!(mode, 1 | 2 | 3),
+        Command::Pause | Command::Feed | Command::Back | Command::Plus | Command::Minus => {
+            matches!(mode, 1 | 2)
+        }
     }
 }
 
 // Start, from base b: at step 1, but under start choice 0 without the timer at step 2, and a one-step pattern is then at its end.
+#[tactic(auto, unfolding(position::specs::Command::start_position, position::specs::Tests::either))]
 fn started(bank: &[u8], settings: Settings, position: Position, b: i16) -> Position
     ensures { result ≡ start_position settings (first_at bank.now settings position) position b }
 {
-    let mut begun = Position {
+    let begun = Position {
         mode: 1,
-        pattern: position.pattern,
-        step: 1,
-        pass: 1,
-        elapsed: 0,
-        waited: 0,
         base: b,
+        ..stopped(position.pattern)
     };
     if settings.start != 0 {
         return begun;
@@ -60,55 +54,65 @@ fn started(bank: &[u8], settings: Settings, position: Position, b: i16) -> Posit
         return begun;
     }
     if 1 < first.count {
-        begun.step = 2;
-        return begun;
+        return Position { step: 2, ..begun };
     }
-    begun.mode = 3;
-    begun.base = 0;
-    begun
+    Position {
+        mode: 3,
+        base: 0,
+        ..begun
+    }
 }
 
 // Start: 28 for a pattern with no step, 29 for start choice 0 with no filtered value.
-fn start(bank: &[u8], settings: Settings, here: Here, value: Whole, position: Position) -> Move
+fn start(
+    bank: &[u8],
+    settings: Settings,
+    here: Here,
+    value: Option<i16>,
+    position: Position,
+) -> Result<Position, Refusal>
     requires { takes_of Command.Start position.mode ≡ true }
     ensures { result ≡ command_move settings here (first_at bank.now settings position) value position Command.Start }
 {
     if here.count == 0 {
-        return Move::No(Refusal::NoStep);
+        return Err(Refusal::NoStep);
     }
-    if settings.start != 0 {
-        return Move::To(started(bank, settings, position, settings.initial));
-    }
-    let Whole::Value(v) = value else {
-        return Move::No(Refusal::NoValue);
+    let base = if settings.start == 0 {
+        value.ok_or(Refusal::NoValue)?
+    } else {
+        settings.initial
     };
-    Move::To(started(bank, settings, position, v))
+    Ok(started(bank, settings, position, base))
 }
 
 // Pause.
-fn paused(mut position: Position) -> Position
+#[tactic(auto, unfolding(position::specs::Command::pause_position))]
+fn paused(position: Position) -> Position
     ensures { result ≡ pause_position position }
 {
-    if position.mode == 1 {
-        position.mode = 2;
-        return position;
-    }
-    position.mode = 1;
-    position
+    let mode = if position.mode == 1 { 2 } else { 1 };
+    Position { mode, ..position }
 }
 
 // Back.
-fn back(here: Here, mut position: Position) -> Position
+#[tactic(auto, unfolding(position::specs::Command::back_position))]
+fn back(here: Here, position: Position) -> Position
     ensures { result ≡ back_position here position }
 {
     let value = ramp::set_value(here, position);
-    position.elapsed = 0;
-    position.waited = 0;
-    if 1 < position.step {
-        position.step = position.step - 1;
-        position.base = value;
+    let begun = Position {
+        elapsed: 0,
+        waited: 0,
+        ..position
+    };
+    if position.step <= 1 {
+        return begun;
     }
-    position
+    Position {
+        step: position.step - 1,
+        base: value,
+        ..begun
+    }
 }
 
 // What a command does in a mode that takes it.
@@ -116,41 +120,42 @@ fn taken(
     bank: &[u8],
     settings: Settings,
     here: Here,
-    value: Whole,
+    value: Option<i16>,
     position: Position,
     pressed: Command,
-) -> Move
+) -> Result<Position, Refusal>
     requires { Takes settings position pressed }
     ensures { result ≡ command_move settings here (first_at bank.now settings position) value position pressed }
 {
     match pressed {
-        Command::Select(q) => Move::To(stopped(q as u8)),
+        Command::Select(q) => Ok(stopped(q as u8)),
         Command::Start => start(bank, settings, here, value, position),
-        Command::Pause => Move::To(paused(position)),
-        Command::Reset => Move::To(stopped(position.pattern)),
-        Command::Feed => Move::To(time::feed(here, position)),
-        Command::Back => Move::To(back(here, position)),
+        Command::Pause => Ok(paused(position)),
+        Command::Reset => Ok(stopped(position.pattern)),
+        Command::Feed => Ok(time::feed(here, position)),
+        Command::Back => Ok(back(here, position)),
         Command::Plus => plus(here, position),
         Command::Minus => minus(here, position),
     }
 }
 
 // A command: 26, then 27 for a mode not listed for it, then what it does there.
+#[tactic(auto, unfolding(plain::specs::Refusals::command_move))]
 pub fn command(
     bank: &[u8],
     settings: Settings,
     here: Here,
-    value: Whole,
+    value: Option<i16>,
     position: Position,
     pressed: Command,
-) -> Move
+) -> Result<Position, Refusal>
     ensures { result ≡ command_move settings here (first_at bank.now settings position) value position pressed }
 {
     if !selects(settings, pressed) {
-        return Move::No(Refusal::NoPattern);
+        return Err(Refusal::NoPattern);
     }
     if !takes(pressed, position.mode) {
-        return Move::No(Refusal::WrongMode);
+        return Err(Refusal::WrongMode);
     }
     taken(bank, settings, here, value, position, pressed)
 }

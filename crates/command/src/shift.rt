@@ -2,52 +2,62 @@
 ghost use Rattle.std.specs.Prelude.{◌≡◌};
 ghost use Rattle.command.specs.Moves.{plus_move, minus_move};
 
-use plain::{Move, Refusal};
+use plain::Refusal;
 use position::{Here, Position};
 
 // Plus.
-pub fn plus(here: Here, mut position: Position) -> Move
+#[tactic(auto, unfolding(crate::specs::Moves::plus_move, position::specs::Command::plus_moves, position::specs::Command::plus_position, position::specs::Tests::both))]
+pub fn plus(here: Here, position: Position) -> Result<Position, Refusal>
     ensures { result ≡ plus_move here position }
 {
+    let Position {
+        elapsed,
+        waited,
+        ..
+    } = position;
     if here.endless {
-        return Move::No(Refusal::Stuck);
+        return Err(Refusal::Stuck);
     }
-    if position.elapsed < here.time {
-        if position.elapsed as u64 + 60 < here.time as u64 {
-            position.elapsed = position.elapsed + 60;
-            return Move::To(position);
+    if elapsed < here.time {
+        if elapsed.saturating_add(60) < here.time {
+            return Ok(Position {
+                elapsed: elapsed + 60,
+                ..position
+            });
         }
-        return Move::No(Refusal::Stuck);
+        return Err(Refusal::Stuck);
     }
-    if position.waited as u64 + 60 < here.wait as u64 {
-        position.waited = position.waited + 60;
-        return Move::To(position);
+    if waited.saturating_add(60) < here.wait {
+        return Ok(Position {
+            waited: waited + 60,
+            ..position
+        });
     }
-    Move::No(Refusal::Stuck)
+    Err(Refusal::Stuck)
 }
 
 // Minus.
-pub fn minus(here: Here, mut position: Position) -> Move
+#[tactic(auto, unfolding(crate::specs::Moves::minus_move, position::specs::Command::minus_moves, position::specs::Command::minus_position, position::specs::Tests::both, position::specs::Tests::either))]
+pub fn minus(here: Here, position: Position) -> Result<Position, Refusal>
     ensures { result ≡ minus_move here position }
 {
     if here.endless {
-        return Move::No(Refusal::Stuck);
+        return Err(Refusal::Stuck);
     }
     if position.elapsed < here.time {
-        if 60 <= position.elapsed {
-            position.elapsed = position.elapsed - 60;
-            return Move::To(position);
-        }
-        return Move::No(Refusal::Stuck);
+        let elapsed = position.elapsed.checked_sub(60).ok_or(Refusal::Stuck)?;
+        return Ok(Position {
+            elapsed,
+            ..position
+        });
     }
-    if 60 <= position.waited {
-        position.waited = position.waited - 60;
-        return Move::To(position);
+    if let Some(waited) = position.waited.checked_sub(60) {
+        return Ok(Position { waited, ..position });
     }
-    if 60 <= here.time {
-        position.elapsed = here.time - 60;
-        position.waited = 0;
-        return Move::To(position);
-    }
-    Move::No(Refusal::Stuck)
+    let elapsed = here.time.checked_sub(60).ok_or(Refusal::Stuck)?;
+    Ok(Position {
+        elapsed,
+        waited: 0,
+        ..position
+    })
 }

@@ -25,17 +25,15 @@ fn put_credits(state: State, out: &mut [u8]) -> usize
     requires { 4158 ≤ length out.old }
     ensures { put out.new result ≡ put_text out.old 0 (credit_lines 1 state.credits) }
 {
-    let credits = state.credits;
-    let mut at: usize = 0;
-    let mut i: usize = 0;
-    while i < 99 {
-        at = put_credit(out, at, i as u8 + 1, credits[i]);
-        i += 1;
+    let mut at = 0;
+    for (i, &credit) in state.credits.iter().enumerate() {
+        at = put_credit(out, at, i as u8 + 1, credit);
     }
     at
 }
 
 // The credits of a state: a line `k seconds` for each step whose credit is not 0, at the front of `out`.
+#[tactic(auto, unfolding(line::specs::Part::credits_of))]
 pub fn credits(state: State, out: &mut [u8]) -> usize
     ensures { put out.new result ≡ credits_of state.credits out.old }
 {

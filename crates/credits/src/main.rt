@@ -2,25 +2,21 @@
 // last line. A refused bank prints its refusal's numbers and nothing more.
 #![tactic(auto)]
 
-use line::Between;
+use controller::State;
 
 // The credits of a state are printed.
-fn print_credits<R: Print + Eprint>(rt: &R, between: Between) {
+fn print_credits<R: Print + Eprint>(rt: &R, state: State) {
     let mut out = [0u8; 65536];
-    let state = between.state;
     let end = credit_lines::credits(state, &mut out);
     files::show(rt, &out, end);
 }
 
 fn main(rt: HostRuntime) {
     let mut buffer = [0u8; 4096];
-    let loaded = files::load_bank(&rt, &mut buffer);
-    if !loaded.is_read {
+    let Some(size) = files::load_bank(&rt, &mut buffer) else {
         return;
-    }
-    let size = loaded.size;
-    let ended = terminal::run_bank(&rt, &buffer[..size], false);
-    if ended.is_whole {
-        print_credits(&rt, ended.between);
+    };
+    if let Some(state) = terminal::run_bank(&rt, &buffer[..size], false) {
+        print_credits(&rt, state);
     }
 }

@@ -1,21 +1,22 @@
 -- The laws of numbers as text.
 -- Assumes nothing.
-use Prim.Native.Nat.{ℕ, zero, suc, ◌+◌, ◌-◌, ◌*◌, ◌/◌, ◌%◌, ◌≤◌, ◌<◌}
-use mathlib.Core.Path.{◌≡◌, refl, sym, ap, ◌∙◌}
+use Prim.Native.Nat.{ℕ, zero, suc, ◌+◌, ◌-◌, ◌*◌, ◌/◌, ◌%◌, ◌^◌, ◌≤◌, ◌<◌}
+use mathlib.Core.Path.{◌≡◌, refl, ap, ◌∙◌}
 use mathlib.Core.Bool.{Bool, true, false, cond}
-use mathlib.Core.List.{List, [], ◌∷◌, ◌++◌}
+use mathlib.Core.List.{List, [], ◌∷◌, ◌++◌, append_assoc}
 use native.Mathlib.Omega.{arith}
-use borrow.Author.Tests.{lt-ltb, le-ltb, ltb-true, ltb-false, leb-false, le-leb, lt-leb}
+use borrow.Author.Tests.{lt-ltb, le-ltb, ltb-true, ltb-false, le-leb, lt-leb}
 use lib.Dec.{ltb}
-use lib.IntN.{ℤ, pos, negsuc, nat_abs}
-use lib.Signed.{le_z}
+use lib.IntN.{ℤ, pos, negsuc}
 use lib.ListN.{length, set, get_or, drop, length-append, drop_of_length-le}
-use lib.Seq.{sets, drop-cons}
+use lib.Seq.{sets, sets-eq, drop-cons, drop-drop}
+use borrow.Rule.Slice.PartMut.{put_mid}
+use Rattle.std.specs.Fmt.{signed_decimal, decimal as std_decimal}
+use Rattle.std.proofs.lemmas.Fmt.{AppendsLastDigit, decimal_from_appends, length-decimal-le}
 use native.Mathlib.Numerals.{add-one}
-use mathlib.Core.Bool.{false≢true}
 use mir.Syntax.{w64}
-use mir.Val.{SFits, of_z}
-use Rattle.field.proofs.Laws.{sets-append, ones}
+use mir.Val.{SFits}
+use Rattle.field.proofs.Laws.{sets-append}
 use Rattle.decimal.specs.Text.{decimal, text, behind, line_of, Put, put, put_text, put_of}
 
 -- ---- a buffer, and where a text in it ends
@@ -43,51 +44,23 @@ length-decimal (suc most) value = go (ltb value 10) (length-decimal most (value 
     go true h = omega arith
     go false h = omega (arith, length-append (decimal most (value / 10)) ((48 + value % 10) ∷ []))
 
--- a digit, or the digits before the last one, and it
-pub one-digit : (most value : ℕ) → 1 ≤ most → value < 10 → decimal most value ≡ (48 + value) ∷ []
+-- they are those that the library `itoa` writes
+appended : AppendsLastDigit decimal
 unfolding decimal
-one-digit zero value h l = absurd (omega arith)
-one-digit (suc most) value h l = rw (lt-ltb value 10 l)
+appended = record {
+  one = λ most value h. rw (lt-ltb value 10 h);
+  more = λ most value h. rw (le-ltb value 10 h);
+}
 
-pub more-digits : (most value : ℕ) → 1 ≤ most → 10 ≤ value → decimal most value ≡ decimal (most - 1) (value / 10) ++ ((48 + value % 10) ∷ [])
-unfolding decimal
-more-digits zero value h l = absurd (omega arith)
-more-digits (suc most) value h l = let g : suc most - 1 ≡ most = omega arith in rw (g, le-ltb value 10 l)
-
--- so they are written
-pub no-digits : (out : List ℕ) (at most value : ℕ) → most ≡ 0 → put out at ≡ put_text out at (decimal most value)
-unfolding decimal
-no-digits out at zero value g = put_is refl (omega arith)
-no-digits out at (suc most) value g = absurd (omega arith)
-
-module _ (out : List ℕ) (at most value : ℕ) (h : 1 ≤ most) where
-  pub first-digit : value < 10 → put (set out at (48 + value)) (at + 1) ≡ put_text out at (decimal most value)
-  first-digit l = sym (ap (put_text out at) (one-digit most value h l))
-
-  pub last-digit : 10 ≤ value → {out' : List ℕ} {to : ℕ} → put out' to ≡ put_text out at (decimal (most - 1) (value / 10))
-      → put (set out' to (48 + value % 10)) (to + 1) ≡ put_text out at (decimal most value)
-  last-digit l {out'} {to} g =
-      let before = decimal (most - 1) (value / 10) in
-      let last = (48 + value % 10) ∷ [] in
-      let digits = more-digits most value h l in
-      put_is
-      (ap (λ (left : Put). set left.bytes left.end (48 + value % 10)) g ∙ sets-append before last out at ∙ sym (ap (sets out at) digits))
-      (omega (arith, end_is g, ap length digits, length-append before last))
+same-digits : (value : ℕ) → value ≤ 2 ^ 63 → decimal 19 value ≡ std_decimal value
+same-digits value h = decimal_from_appends decimal appended 19 value (omega arith) (length-decimal-le 19 value (omega arith) (omega arith) (omega arith))
 
 -- ---- a number, by its sign
 
-pub text-from-0 : (x : ℤ) → le_z (pos 0) x ≡ true → text x ≡ decimal 19 (nat_abs x)
+pub text-same : (x : ℤ) → SFits w64 x → text x ≡ signed_decimal x
 unfolding text
-text-from-0 (pos value) h = refl
-text-from-0 (negsuc value) h = absurd (false≢true h)
-
-pub text-below-0 : (x : ℤ) → SFits w64 x → le_z (pos 0) x ≡ false → text x ≡ 45 ∷ decimal 19 (ones w64 - of_z w64 x + 1)
-unfolding text
-text-below-0 (pos value) f h = let l = leb-false 0 value h in absurd (omega arith)
-text-below-0 (negsuc value) f h =
-    let l = f.sfits in
-    let g : ones w64 - of_z w64 (negsuc value) ≡ value = omega arith in
-    rw g
+text-same (pos value) f = same-digits value (let l = f.sfits in omega arith)
+text-same (negsuc value) f = ap (λ (digits : List ℕ). 45 ∷ digits) (rw (add-one value) (same-digits (suc value) (let l = f.sfits in omega arith)))
 
 pub length-text : (x : ℤ) → length (text x) ≤ 20
 unfolding text
@@ -104,20 +77,24 @@ behind-is xs i = go (ltb i (length xs)) refl
     go true h = rw (drop-cons xs i (pos 0) (ltb-true i (length xs) h))
     go false h = rw (drop_of_length-le xs (ltb-false i (length xs) h))
 
+-- bytes put in the place of a part of a buffer are written there
+mid-sets : (out : List ℕ) (to : ℕ) (bytes : List ℕ) → to + length bytes ≤ length out → put_mid to (to + length bytes - to) out bytes ≡ sets out to bytes
+mid-sets out to bytes h =
+    let size : to + length bytes - to ≡ length bytes = omega arith in
+    rw (size, sets-eq bytes out to h, append_assoc, drop-drop)
+
 -- the rest of a line: its first number, what stands behind that, and what is left
-module _ (out : List ℕ) (to i : ℕ) (xs : List ℤ) {out' : List ℕ} {end : ℕ} (h : i < length xs)
-    (g : put out' end ≡ put_text out to (text (get_or xs i (pos 0)))) where
-  pub line-turn : {byte : ℕ} → byte ≡ cond (ltb (i + 1) (length xs)) 32 10
-      → put_text (set out' end byte) (end + 1) (line_of (drop (i + 1) xs)) ≡ put_text out to (line_of (drop i xs))
-  unfolding line_of
-  line-turn f =
-      let first = text (get_or xs i (pos 0)) in
-      let rest = drop (suc i) xs in
-      put_is
-      ((λ j. sets (set (bytes-are g j) (end_is g j) (f j)) (end_is g j + 1) (line_of (drop (i + 1) xs)))
-      ∙ rw (drop-cons xs i (pos 0) h, add-one i, behind-is xs (suc i), add-one (to + length first))
-      (sets-append first (behind rest ∷ line_of rest) out to))
-      (rw (drop-cons xs i (pos 0) h, add-one i) (omega (arith, end_is g, length-append first (behind rest ∷ line_of rest))))
+pub line-turn : (out : List ℕ) (to i : ℕ) (xs : List ℤ) {first : List ℕ} {byte : ℕ} → i < length xs → to + length first ≤ length out
+    → first ≡ text (get_or xs i (pos 0)) → byte ≡ cond (ltb (i + 1) (length xs)) 32 10
+    → put_text (set (put_mid to (to + length first - to) out first) (to + length first) byte) (to + length first + 1) (line_of (drop (i + 1) xs))
+    ≡ put_text out to (line_of (drop i xs))
+unfolding line_of
+line-turn out to i xs {first} {byte} h room g f =
+    let rest = drop (suc i) xs in
+    let line : line_of (drop i xs) ≡ first ++ (behind rest ∷ line_of rest) = rw (drop-cons xs i (pos 0) h, g) in
+    let byte-is : byte ≡ behind rest = f ∙ ap (λ (n : ℕ). cond (ltb n (length xs)) 32 10) (add-one i) ∙ behind-is xs (suc i) in
+    rw (mid-sets out to first room, byte-is, line, add-one i, add-one (to + length first))
+    (put_is (sets-append first (behind rest ∷ line_of rest) out to) (omega (arith, length-append first (behind rest ∷ line_of rest))))
 
 -- a line that has room, and one that has none
 pub put-fits : (out : List ℕ) (at : ℕ) (xs : List ℤ) → at + 21 * length xs ≤ length out → put_of out at xs ≡ put_text out at (line_of xs)

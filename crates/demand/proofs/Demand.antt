@@ -7,8 +7,7 @@ use Prim.Native.Nat.{ℕ, ◌-◌}
 use native.Mathlib.Omega.{arith}
 use lib.IntN.{ℤ, pos, nat_abs}
 use lib.ListN.{get_or}
-use Rattle.setting.specs.Found.{numbers_of as bank_numbers, is_accepted as passes}
-use Rattle.setting.specs.declared.Checked.{Checked}
+use Rattle.setting.specs.Found.{numbers_of as bank_numbers}
 use Rattle.bank.specs.Check.{found_in}
 use Rattle.measure.specs.Filter.{outside_of}
 use Rattle.position.proofs.Tests.{choice}
@@ -16,11 +15,10 @@ use Rattle.alarm.specs.Alarm.{all_in_range}
 use Rattle.outage.specs.Outage.{Power, on, off, Held, start, off-back, step, steps}
 use Rattle.outage.proofs.Theorem as theorem
 use Rattle.plain.specs.declared.Event.{Event}
-use Rattle.plain.specs.declared.Answer.{Answer}
 use Rattle.plain.specs.declared.Effect.{Effect}
 use Rattle.plain.specs.Record.{sized}
 use Rattle.plain.specs.Setup.{Setup, Usable}
-use Rattle.plain.specs.Answer.{number_of, numbers_of}
+use Rattle.plain.specs.Answer.{number_of, numbers_of, Answer}
 use Rattle.plain.specs.Run.{shown_in}
 use Rattle.plain.specs.Event.{State, dark, After, after, record_for, retained_in, event_outcome, make_outcome, events_from, final}
 use Rattle.plain.specs.Replay.{powered, listed, refused_off, machine}
@@ -29,6 +27,10 @@ use Rattle.plain.proofs.Credits.{credit-is}
 use Rattle.plain.proofs.Counted.{credits-are}
 use Rattle.plain.proofs.Standing.{lawful, state_of, view, GoodHeld, Kept, kept-readable, one, good-one, made, good_start}
 use Rattle.demand.specs.Demand.{remaining, on_after, replayed, last_saved, ticks_counted, Replays, Demand3}
+use Rattle.std.specs.Prelude.{Ok, Err}
+use Rattle.plain.specs.declared.AnyRefusal.{AnyRefusal}
+use Rattle.setting.specs.declared.BankRefusal.{BankRefusal}
+use Rattle.setting.proofs.Laws.{unless-cases}
 
 -- ---- a list is a list of steps
 
@@ -51,25 +53,24 @@ module _ (setup : Setup) (ok : Usable setup) where
 -- ---- no event of a list is refused with 31
 
 Below : Answer → Type 0
-Below (Answer.Accepted shown) = Unit {0}
-Below (Answer.Bank found) = Unit {0}
-Below (Answer.Refused refusal) = number_of refusal ≡ 31 → ⊥
+Below (Ok shown) = Unit {0}
+Below (Err (AnyRefusal.Bank found)) = Unit {0}
+Below (Err (AnyRefusal.Own refusal)) = number_of refusal ≡ 31 → ⊥
 
 not-31 : (answer : Answer) → Below answer → numbers_of answer ≡ pos 31 ∷ [] → ⊥
 unfolding numbers_of bank_numbers Below
 not-31 answer low holds = go answer low (ap (λ (xs : List ℤ). nat_abs (get_or xs 0 (pos 0))) holds)
   where
-    bank : (found : Checked) → nat_abs (get_or (map pos (bank_numbers found)) 0 (pos 0)) ≡ 31 → ⊥
-    bank Checked.Accepted holds = omega arith
-    bank Checked.Short holds = omega arith
-    bank (Checked.Setting offset) holds = omega arith
-    bank (Checked.Pair pair) holds = omega arith
-    bank (Checked.Body pattern step) holds = omega arith
+    bank : (refusal : BankRefusal) → nat_abs (get_or (map pos (bank_numbers (Err refusal))) 0 (pos 0)) ≡ 31 → ⊥
+    bank BankRefusal.Short holds = omega arith
+    bank (BankRefusal.Setting offset) holds = omega arith
+    bank (BankRefusal.Pair pair) holds = omega arith
+    bank (BankRefusal.Body pattern step) holds = omega arith
 
     go : (answer : Answer) → Below answer → nat_abs (get_or (numbers_of answer) 0 (pos 0)) ≡ 31 → ⊥
-    go (Answer.Accepted shown) low holds = omega arith
-    go (Answer.Bank found) low holds = bank found holds
-    go (Answer.Refused refusal) low holds = low holds
+    go (Ok shown) low holds = omega arith
+    go (Err (AnyRefusal.Bank found)) low holds = bank found holds
+    go (Err (AnyRefusal.Own refusal)) low holds = low holds
 
 module _ (setup : Setup) where
   below_one : (power : Power (machine setup)) (store : List ℕ) (event : Event) → Below (step (machine setup) power store (listed event)).answer
@@ -109,8 +110,8 @@ module _ (setup : Setup) where
   made-numbered : (store : List ℕ) → Numbered (make_outcome setup store)
   unfolding make_outcome retained_in
   made-numbered store =
-      choice Numbered (passes (found_in setup.bank))
-      (λ _. choice Numbered (not (sized store)) (λ _. refl) (λ _. choice Numbered (not (all_in_range setup.config.alarms)) (λ _. refl) (λ _. refl))) (λ _. refl)
+      unless-cases Numbered (found_in setup.bank)
+      (λ _. choice Numbered (not (sized store)) (λ _. refl) (λ _. choice Numbered (not (all_in_range setup.config.alarms)) (λ _. refl) (λ _. refl))) (λ _ _. refl)
 
   pub final-is : (store : List ℕ) (events : List Event)
       → let left = final setup store events in after left.state left.store left.answer ≡ left

@@ -4,16 +4,16 @@ use mathlib.Core.Path.{◌≡◌, sym, subst, ◌∙◌}
 use mathlib.Core.Bool.{true, false}
 use mathlib.Core.List.{List}
 use Prim.Native.Nat.{ℕ}
-use Rattle.plain.specs.declared.Reply.{Reply}
 use Rattle.plain.specs.Setup.{Setup}
 use Rattle.plain.specs.Event.{after, dark, final}
 use Rattle.plain.specs.Listed.{events_in, formed}
 use Rattle.demand.specs.Demand.{Demand3}
 use Rattle.demand.specs.Run.{AfterRun, after_run, given, run_outcome, answer_in, Meets}
 use Rattle.demand.proofs.Demand.{final-is, demand3}
+use Rattle.std.specs.Prelude.{None}
 
 module _ (setup : Setup) (store bytes : List ℕ) where
-  pub no-form : formed bytes ≡ false → run_outcome setup store bytes ≡ after_run dark store Reply.NoForm
+  pub no-form : formed bytes ≡ false → run_outcome setup store bytes ≡ after_run dark store None
   unfolding run_outcome
   no-form holds = rw holds
 

@@ -4,11 +4,11 @@ use Rattle.std.specs.Prelude.{◌≡◌, Bool, true, false, List, [], ◌∷◌,
 use Rattle.outage.specs.Outage.{RemainingOf, replay, strike, remaining_of}
 use Rattle.outage.specs.Credit.{due}
 use Rattle.plain.specs.declared.Event.{Event}
-use Rattle.plain.specs.declared.Answer.{Answer}
 use Rattle.plain.specs.Setup.{Setup}
 use Rattle.plain.specs.Run.{readable_in, shown_in}
 use Rattle.plain.specs.Event.{After, dark, record_for, brought_back}
 use Rattle.plain.specs.Replay.{Live, machine, listed, counted}
+use Rattle.plain.specs.Answer.{Answer}
 
 module _ (setup : Setup) (events : List Event) where
   -- what is left of the list, and whether power is on after it

@@ -1,24 +1,20 @@
--- Facts about the tests that the code makes, and about cases that only the other arms of a `match` know.
+-- Facts about places, the tests that the code makes, and the alarms.
 -- Assumes nothing.
 use mathlib.Core.Path.{◌≡◌, refl, sym, ap, ◌∙◌}
 use mathlib.Core.Bool.{Bool, true, false, not, ◌&&◌, false≢true}
 use mathlib.Core.List.{List, [], ◌∷◌}
-use mathlib.Core.Logic.{⊎_elim}
 use Prim.Native.Nat.{ℕ, zero, suc, ◌≤◌, ◌<◌}
 use native.Mathlib.Omega.{arith}
 use borrow.Author.Tests.{ltb-true}
-use denote.Enum.Declared.{tag_of}
-use types.Run.{OneOf}
 use lib.ListN.{length, set}
 use Rattle.setting.specs.declared.Settings.{Settings}
 use Rattle.setting.proofs.Laws.{both_left, both_right}
 use Rattle.position.specs.declared.Position.{Position}
 use Rattle.position.specs.declared.Here.{Here}
 use Rattle.position.specs.declared.Command.{Command}
-use Rattle.position.specs.Tests.{both, either, all}
+use Rattle.position.specs.Tests.{either, all}
 use Rattle.position.specs.Program.{first_at, set_value_of}
 use Rattle.position.specs.Command.{is_start}
-use Rattle.position.specs.contracts.Command.{the_type as command-type}
 use Rattle.measure.specs.Filter.{whole_of}
 use Rattle.measure.specs.declared.Measured.{Measured}
 use Rattle.alarm.specs.declared.Alarms.{Alarms}
@@ -30,9 +26,9 @@ use Rattle.plain.specs.declared.Event.{Event}
 use Rattle.plain.specs.declared.Refusal.{Refusal}
 use Rattle.plain.specs.Setup.{Setup, here_in, first_in}
 use Rattle.plain.specs.Run.{sound_by, sound_in}
-use Rattle.plain.specs.Refusals.{Row, judged, is_return, sound_state}
+use Rattle.plain.specs.Refusals.{Row, judged, sound_state}
 use Rattle.effect.specs.Known.{Known}
-use Rattle.effect.specs.Done.{alarms_by, alarms_if, keeps_alarms, record_bounded, bounded_for}
+use Rattle.effect.specs.Done.{alarms_by, keeps_alarms}
 
 -- ---- places
 
@@ -48,11 +44,6 @@ unfolding first_in
 first-in setup position known = rw known.settings-are
 
 -- ---- tests
-
-pub both-off : (x : Bool) → both x false ≡ false
-unfolding both
-both-off true = refl
-both-off false = refl
 
 module _ (setup : Setup) (power : Bool) (run : Run) where
   -- what the code tests, by what `sound` answered
@@ -83,40 +74,16 @@ module _ (setup : Setup) (power : Bool) (run : Run) where
       go true h g = g
       go false h g = absurd (false≢true h)
 
--- alarms that stay, by either reason
-pub kept-alarms : (accepted idle : Bool) (config : Config) (there : Here) (store : List ℕ) (event : Event) (alarms : Alarms) (position : Position)
-    (measured : Measured) → idle ≡ all_idle config.alarms alarms → keeps_alarms accepted idle event ≡ true
-    → alarms ≡ alarms_if accepted config there store event alarms position measured
-kept-alarms false idle config there store event alarms position measured is keeps = refl
-kept-alarms true true config there store (Event.Tick reading) alarms position measured is keeps =
+-- alarms that stay
+pub kept-alarms : (idle : Bool) (config : Config) (there : Here) (store : List ℕ) (event : Event) (alarms : Alarms) (position : Position)
+    (measured : Measured) → idle ≡ all_idle config.alarms alarms → keeps_alarms idle event ≡ true
+    → alarms ≡ alarms_by config there store event alarms position measured
+kept-alarms true config there store (Event.Tick reading) alarms position measured is keeps =
     idle-leaves config.alarms position.mode (whole_of measured) (set_value_of there position) alarms (sym is)
-kept-alarms true false config there store (Event.Tick reading) alarms position measured is keeps = absurd (false≢true keeps)
-kept-alarms true idle config there store (Event.Press command) alarms position measured is keeps = absurd (false≢true keeps)
-kept-alarms true idle config there store Event.Cut alarms position measured is keeps = absurd (false≢true keeps)
-kept-alarms true idle config there store (Event.Return reading) alarms position measured is keeps = absurd (false≢true keeps)
-
--- and where they do not, the event is accepted
-pub moved-alarms : (accepted idle : Bool) (config : Config) (there : Here) (store : List ℕ) (event : Event) (alarms : Alarms) (position : Position)
-    (measured : Measured) → keeps_alarms accepted idle event ≡ false
-    → alarms_by config there store event alarms position measured ≡ alarms_if accepted config there store event alarms position measured
-moved-alarms true idle config there store event alarms position measured moves = refl
-moved-alarms false idle config there store (Event.Tick reading) alarms position measured moves = absurd (false≢true (sym moves))
-moved-alarms false idle config there store (Event.Press command) alarms position measured moves = absurd (false≢true (sym moves))
-moved-alarms false idle config there store Event.Cut alarms position measured moves = absurd (false≢true (sym moves))
-moved-alarms false idle config there store (Event.Return reading) alarms position measured moves = absurd (false≢true (sym moves))
-
--- whether the record's alarms are within their bounds is asked for a return alone
-pub return-bounded : (config : Config) (store : List ℕ) (event : Event) → is_return event ≡ true → record_bounded config store ≡ bounded_for config store event
-return-bounded config store (Event.Tick reading) is = absurd (false≢true is)
-return-bounded config store (Event.Press command) is = absurd (false≢true is)
-return-bounded config store Event.Cut is = absurd (false≢true is)
-return-bounded config store (Event.Return reading) is = refl
-
-pub other-bounded : (config : Config) (store : List ℕ) (event : Event) → is_return event ≡ false → true ≡ bounded_for config store event
-other-bounded config store (Event.Tick reading) is = refl
-other-bounded config store (Event.Press command) is = refl
-other-bounded config store Event.Cut is = refl
-other-bounded config store (Event.Return reading) is = absurd (false≢true (sym is))
+kept-alarms false config there store (Event.Tick reading) alarms position measured is keeps = absurd (false≢true keeps)
+kept-alarms idle config there store (Event.Press command) alarms position measured is keeps = absurd (false≢true keeps)
+kept-alarms idle config there store Event.Cut alarms position measured is keeps = absurd (false≢true keeps)
+kept-alarms idle config there store (Event.Return reading) alarms position measured is keeps = absurd (false≢true keeps)
 
 -- ---- refusals
 
@@ -131,16 +98,12 @@ judged-of f (row ∷ rows) refuse next = go row.1 (judged-of f rows refuse next)
     go true h = refl
     go false h = h
 
--- ---- cases that only the other arms of a `match` know
+-- ---- commands
 
-pub no_start : (command : Command) → OneOf (0 ∷ 2 ∷ 3 ∷ 4 ∷ 5 ∷ 6 ∷ 7 ∷ []) (tag_of command-type command) → is_start command ≡ false
+pub no_start : (command : Command) → (command ≡ Command.Start → ⊥) → is_start command ≡ false
 unfolding is_start
 no_start (Command.Select q) h = refl
-no_start Command.Start h =
-    absurd
-    (⊎_elim (λ x. omega arith)
-    (⊎_elim (λ x. omega arith)
-    (⊎_elim (λ x. omega arith) (⊎_elim (λ x. omega arith) (⊎_elim (λ x. omega arith) (⊎_elim (λ x. omega arith) (λ x. omega arith)))))) h)
+no_start Command.Start h = absurd (h refl)
 no_start Command.Pause h = refl
 no_start Command.Reset h = refl
 no_start Command.Feed h = refl

@@ -1,6 +1,6 @@
--- What an event does, before what it shows is looked up and before what becomes of alarms and credits; and its effect, with all of these.
+-- What an accepted event does, before what it shows is looked up and before what becomes of alarms and credits; and its effect, with all of these.
 -- Assumes nothing.
-use Rattle.std.specs.Prelude.{◌≡◌, Bool, true, false, cond, not, ◌||◌, List, ℕ}
+use Rattle.std.specs.Prelude.{◌≡◌, Bool, true, false, cond, List, ℕ, Result, Ok, Err}
 use Rattle.setting.specs.declared.Settings.{Settings}
 use Rattle.measure.specs.Filter.{whole_of}
 use Rattle.measure.specs.declared.Measured.{Measured}
@@ -15,15 +15,16 @@ use Rattle.plain.specs.declared.Run.{Run}
 use Rattle.plain.specs.declared.Credit.{Credit}
 use Rattle.plain.specs.declared.Event.{Event}
 use Rattle.plain.specs.declared.Refusal.{Refusal}
-use Rattle.plain.specs.declared.Answer.{Answer}
 use Rattle.plain.specs.declared.Effect.{Effect}
 use Rattle.plain.specs.Record.{position_in, alarms_in}
 use Rattle.plain.specs.Setup.{Setup, over, settings_in, here_in}
 use Rattle.plain.specs.Run.{tick_credit, tick_saves, command_credit}
-use Rattle.plain.specs.Event.{brought_back, known_effect}
+use Rattle.plain.specs.Event.{refused, brought_back, known_effect}
 use Rattle.effect.specs.declared.Progress.{Progress}
 use Rattle.effect.specs.declared.Done.{Done}
 use Rattle.effect.specs.Known.{Ready}
+use Rattle.plain.specs.Answer.{Answer}
+use Rattle.plain.specs.declared.AnyRefusal.{AnyRefusal}
 
 -- ---- a run without its alarms, and with them
 
@@ -51,34 +52,24 @@ abbrev pub Returned : (Run → Run) → Progress → Progress → Type 0
 Returned return progress left =
     (alarms : Alarms) → with_alarms left (kept_in left.position.mode alarms) ≡ return (with_alarms progress alarms)
 
--- ---- a refusal leaves all; accepted with power on, with what is left
+-- ---- accepted with power on, with what is left; saving sets u to 0
 
-abbrev pub refused_done : Bool → Progress → Refusal → Done
-refused_done power progress refusal = record { power = power; progress = progress; saves = false; accepted = false; refusal = refusal }
-
--- an accepted event has no refusal: what stands for it is looked at by nobody. Saving sets u to 0
 abbrev pub saved_progress : Progress → Progress
 saved_progress progress = record { position = progress.position; unsaved = 0; measured = progress.measured }
 
 abbrev pub accepted_done : Bool → Progress → Done
-accepted_done saves progress =
-    record {
-      power = true;
-      progress = cond saves (saved_progress progress) progress;
-      saves = saves;
-      accepted = true;
-      refusal = Refusal.Unsound;
-    }
+accepted_done saves progress = record { power = true; progress = cond saves (saved_progress progress) progress; saves = saves }
 
 -- ---- the answer: a refusal, or what is shown of a position
 
-abbrev pub answer_by : Settings → Here → Position → Bool → Refusal → Answer
-answer_by settings here position accepted refusal = cond accepted (Answer.Accepted (shown_of settings here position)) (Answer.Refused refusal)
+abbrev pub answer_by : Settings → Here → Position → Result (Unit {0}) Refusal → Answer
+answer_by settings here position (Ok done) = Ok (shown_of settings here position)
+answer_by settings here position (Err refusal) = Err (AnyRefusal.Own refusal)
 
-abbrev pub answer_in : Setup → Position → Bool → Refusal → Answer
-answer_in setup position accepted refusal = answer_by (settings_in setup) (here_in setup position) position accepted refusal
+abbrev pub answer_in : Setup → Position → Result (Unit {0}) Refusal → Answer
+answer_in setup position verdict = answer_by (settings_in setup) (here_in setup position) position verdict
 
--- ---- what becomes of the credits: a refusal keeps them; the position is that of before the event
+-- ---- what becomes of the credits; the position is that of before the event
 
 abbrev pub credit_by : Event → Position → Credit
 credit_by (Event.Tick reading) before = tick_credit before
@@ -86,11 +77,8 @@ credit_by (Event.Press command) before = command_credit command
 credit_by Event.Cut before = Credit.Clear
 credit_by (Event.Return reading) before = Credit.Restore
 
-abbrev pub credit_if : Bool → Event → Position → Credit
-credit_if accepted event before = cond accepted (credit_by event before) Credit.Keep
-
 -- ---- what becomes of the alarms, by what is said at the position that is left, that position and the measured value: a tick judges them, a start
--- and a cut clear them, a return takes those of the record, and any move to stopped clears; a refusal keeps them
+-- and a cut clear them, a return takes those of the record, and any move to stopped clears
 
 abbrev pub alarms_by : Config → Here → List ℕ → Event → Alarms → Position → Measured → Alarms
 alarms_by config there store (Event.Tick reading) alarms position measured =
@@ -99,25 +87,16 @@ alarms_by config there store (Event.Press command) alarms position measured = ke
 alarms_by config there store Event.Cut alarms position measured = all_clear
 alarms_by config there store (Event.Return reading) alarms position measured = kept_in position.mode (alarms_in store)
 
-abbrev pub alarms_if : Bool → Config → Here → List ℕ → Event → Alarms → Position → Measured → Alarms
-alarms_if accepted config there store event alarms position measured = cond accepted (alarms_by config there store event alarms position measured) alarms
+-- they stay as they are where the event is a tick and they are idle; of the other events that is not asked
+abbrev pub keeps_alarms : Bool → Event → Bool
+keeps_alarms idle (Event.Tick reading) = idle
+keeps_alarms idle (Event.Press command) = false
+keeps_alarms idle Event.Cut = false
+keeps_alarms idle (Event.Return reading) = false
 
--- they stay as they are where the event is refused, and where it is a tick and they are idle; of the other events that is not asked
-abbrev pub keeps_alarms : Bool → Bool → Event → Bool
-keeps_alarms accepted idle (Event.Tick reading) = not accepted || idle
-keeps_alarms accepted idle (Event.Press command) = not accepted
-keeps_alarms accepted idle Event.Cut = not accepted
-keeps_alarms accepted idle (Event.Return reading) = not accepted
-
--- whether the alarms that the record holds are within their bounds; a return alone looks at them
+-- whether the alarms that the record holds are within their bounds
 abbrev pub record_bounded : Config → List ℕ → Bool
 record_bounded config store = all_bounded config.alarms (position_in store).mode (alarms_in store)
-
-abbrev pub bounded_for : Config → List ℕ → Event → Bool
-bounded_for config store (Event.Tick reading) = true
-bounded_for config store (Event.Press command) = true
-bounded_for config store Event.Cut = true
-bounded_for config store (Event.Return reading) = record_bounded config store
 
 -- ---- what an event does to a run, with credits, alarms and answer
 
@@ -127,40 +106,45 @@ effect_of setup store run event done =
     let there = here_in setup left.position in
     record {
       power = done.power;
-      run = with_alarms left (alarms_if done.accepted setup.config there store event run.alarms left.position left.measured);
-      credit = credit_if done.accepted event run.position;
+      run = with_alarms left (alarms_by setup.config there store event run.alarms left.position left.measured);
+      credit = credit_by event run.position;
       saves = done.saves;
-      answer = answer_in setup left.position done.accepted done.refusal;
+      answer = answer_in setup left.position (Ok tt);
     }
 
+-- where it may be refused; a refusal leaves all
+abbrev pub effect_if : Setup → List ℕ → Bool → Run → Event → Result Done Refusal → Effect
+effect_if setup store power run event (Ok done) = effect_of setup store run event done
+effect_if setup store power run event (Err refusal) = refused power run refusal
+
 -- that it is the effect that the definitions give, over a setup and a record, and with these alarms
-abbrev pub DoesTo : Setup → List ℕ → Bool → Progress → Event → Done → Alarms → Type 0
+abbrev pub DoesTo : Setup → List ℕ → Bool → Progress → Event → Result Done Refusal → Alarms → Type 0
 DoesTo setup store power progress event done alarms =
-    effect_of setup store (with_alarms progress alarms) event done ≡ known_effect setup store power (with_alarms progress alarms) event
+    effect_if setup store power (with_alarms progress alarms) event done ≡ known_effect setup store power (with_alarms progress alarms) event
 
 -- what a tick does: so it is over every setup, record and alarms on which the state is sound
-abbrev pub Does : Settings → Here → Bool → Progress → Event → Done → Type 0
+abbrev pub Does : Settings → Here → Bool → Progress → Event → Result Done Refusal → Type 0
 Does settings here power progress event done =
     (setup : Setup) (store : List ℕ) (alarms : Alarms) → Ready setup store power (with_alarms progress alarms) settings here
     → DoesTo setup store power progress event done alarms
 
 -- what a command does over a bank, which says where a run begins
-abbrev pub DoesPress : List ℕ → Settings → Here → Bool → Progress → Event → Done → Type 0
+abbrev pub DoesPress : List ℕ → Settings → Here → Bool → Progress → Event → Result Done Refusal → Type 0
 DoesPress bank settings here power progress event done =
     (config : Config) (store : List ℕ) (alarms : Alarms) → Ready (over bank config) store power (with_alarms progress alarms) settings here
     → DoesTo (over bank config) store power progress event done alarms
 
--- what a cut does, whatever is said
-abbrev pub DoesCut : Bool → Progress → Done → Type 0
-DoesCut power progress done = (settings : Settings) (here : Here) → Does settings here power progress Event.Cut done
+-- what a cut does, whatever is left of the run and whatever is said
+abbrev pub DoesCut : Bool → Result Done Refusal → Type 0
+DoesCut power done = (settings : Settings) (here : Here) (progress : Progress) → Does settings here power progress Event.Cut done
 
--- what an event does over a bank and a record, if `bounded` is so of the record
-abbrev pub DoesOver : List ℕ → List ℕ → Settings → Here → Bool → Progress → Bool → Event → Done → Type 0
-DoesOver bank store settings here power progress bounded event done =
-    (config : Config) (alarms : Alarms) → Ready (over bank config) store power (with_alarms progress alarms) settings here
-    → bounded ≡ bounded_for config store event → DoesTo (over bank config) store power progress event done alarms
+-- what an event does over a bank, the settings beside it and a record
+abbrev pub DoesOver : List ℕ → Config → List ℕ → Settings → Here → Bool → Progress → Event → Result Done Refusal → Type 0
+DoesOver bank config store settings here power progress event done =
+    (alarms : Alarms) → Ready (over bank config) store power (with_alarms progress alarms) settings here
+    → DoesTo (over bank config) store power progress event done alarms
 
--- what a return does, whatever is said at the position before it
-abbrev pub DoesReturn : List ℕ → List ℕ → Settings → Bool → Progress → Bool → Event → Done → Type 0
-DoesReturn bank store settings power progress bounded event done =
-    (here : Here) → DoesOver bank store settings here power progress bounded event done
+-- what a return does, whatever the run before it is and is said there
+abbrev pub DoesReturn : List ℕ → Config → List ℕ → Settings → Bool → Event → Result Done Refusal → Type 0
+DoesReturn bank config store settings power event done =
+    (here : Here) (progress : Progress) → DoesOver bank config store settings here power progress event done

@@ -9,7 +9,6 @@ use Rattle.position.specs.Program.{said_at}
 use Rattle.alarm.specs.Alarm.{all_in_range}
 use Rattle.alarm.specs.Idle.{all_idle}
 use Rattle.plain.specs.declared.Run.{Run}
-use Rattle.plain.specs.declared.Answer.{Answer}
 use Rattle.plain.specs.Record.{sized}
 use Rattle.plain.specs.Setup.{Setup}
 use Rattle.plain.specs.Run.{shown_in}
@@ -17,6 +16,7 @@ use Rattle.plain.specs.Refusals.{sound_state}
 use Rattle.plain.specs.Event.{State}
 use Rattle.plain.proofs.Standing.{Stands}
 use Rattle.making.specs.declared.Ran.{Ran}
+use Rattle.std.specs.Prelude.{Ok}
 
 -- the settings, and what is said at a position
 pub record Known (bank : List ℕ) (position : Position) (settings : Settings) (here : Here) : Type 0 where
@@ -44,4 +44,4 @@ pub record Within (setup : Setup) (settings : Settings) (here : Here) (idle : Bo
 -- what making gave, accepted
 pub record Made (setup : Setup) (ran : Ran) (store : List ℕ) : Type 0 where
   pub stands : Stands setup (record { power = ran.power; run = ran.run; credits = ran.credits }) store
-  pub answer-is : ran.answer ≡ Answer.Accepted (shown_in setup ran.run)
+  pub answer-is : ran.answer ≡ Ok (shown_in setup ran.run)

@@ -1,10 +1,9 @@
-// What an event does to the credits and to the alarms, by whether it was accepted; and what a return wants of the record's alarms.
+// What an accepted event does to the credits and to the alarms; and what a return wants of the record's alarms.
 ghost use Rattle.std.specs.Prelude.{◌≡◌, cond};
 ghost use Rattle.position.specs.Command.{is_start};
 ghost use Rattle.alarm.specs.Alarm.{all_clear};
 ghost use Rattle.plain.specs.Run.{tick_credit, command_credit};
-ghost use Rattle.effect.specs.Done.{credit_if, alarms_by, keeps_alarms, record_bounded};
-ghost use Rattle.plain.specs.Refusals.{is_return};
+ghost use Rattle.effect.specs.Done.{credit_by, alarms_by, keeps_alarms, record_bounded};
 
 use crate::Progress;
 use alarm::Alarms;
@@ -12,32 +11,33 @@ use plain::{Config, Credit, Event};
 use position::{Command, Here, Position};
 
 // In mode 1 a tick is credited to its step.
+#[tactic(auto, unfolding(plain::specs::Run::tick_credit))]
 fn tick_credit(position: Position) -> Credit
     ensures { result ≡ tick_credit position }
 {
     if position.mode == 1 {
-        return Credit::Cook(position.step);
+        Credit::Cook(position.step)
+    } else {
+        Credit::Keep
     }
-    Credit::Keep
 }
 
 // A start clears the credits.
+#[tactic(auto, using(crate::proofs::Laws::no_start), unfolding(position::specs::Command::is_start))]
 fn command_credit(pressed: Command) -> Credit
     ensures { result ≡ command_credit pressed }
 {
     if let Command::Start = pressed {
-        return Credit::Clear;
+        Credit::Clear
+    } else {
+        Credit::Keep
     }
-    Credit::Keep
 }
 
 // What an event does to the credits; the position is that of before it.
-pub fn credit_after(event: Event, before: Position, accepted: bool) -> Credit
-    ensures { result ≡ credit_if accepted event before }
+pub fn credit_after(event: Event, before: Position) -> Credit
+    ensures { result ≡ credit_by event before }
 {
-    if !accepted {
-        return Credit::Keep;
-    }
     match event {
         Event::Tick(_) => tick_credit(before),
         Event::Press(pressed) => command_credit(pressed),
@@ -47,13 +47,15 @@ pub fn credit_after(event: Event, before: Position, accepted: bool) -> Credit
 }
 
 // A start clears flags and counts of the alarms.
+#[tactic(auto, using(crate::proofs::Laws::no_start), unfolding(position::specs::Command::is_start))]
 fn cleared_by(pressed: Command, alarms: Alarms) -> Alarms
     ensures { result ≡ cond (is_start pressed) all_clear alarms }
 {
     if let Command::Start = pressed {
-        return bounds::cleared();
+        bounds::cleared()
+    } else {
+        alarms
     }
-    alarms
 }
 
 // What an accepted event does to the alarms, by what it leaves: a tick judges them, any move to stopped clears them.
@@ -68,37 +70,19 @@ pub fn alarms_by(
     ensures { result ≡ alarms_by config there store.now event alarms progress.position progress.measured }
 {
     let position = progress.position;
-    let value = progress.measured;
     match event {
-        Event::Tick(_) => judge::tick(config.alarms, there, position, value, alarms),
+        Event::Tick(_) => judge::tick(config.alarms, there, position, progress.measured, alarms),
         Event::Press(pressed) => bounds::kept_in(position.mode, cleared_by(pressed, alarms)),
         Event::Cut => bounds::cleared(),
         Event::Return(_) => bounds::kept_in(position.mode, alarm_part::read_alarms(store)),
     }
 }
 
-// Whether the alarms stay as they are for one of two plain reasons: the event is refused, or is a tick and they are idle.
-pub fn keeps(accepted: bool, idle: bool, event: Event) -> bool
-    ensures { result ≡ keeps_alarms accepted idle event }
+// Whether the alarms stay as they are: the event is a tick, and they are idle.
+pub fn keeps(idle: bool, event: Event) -> bool
+    ensures { result ≡ keeps_alarms idle event }
 {
-    match event {
-        Event::Tick(_) => !accepted | idle,
-        Event::Press(_) => !accepted,
-        Event::Cut => !accepted,
-        Event::Return(_) => !accepted,
-    }
-}
-
-// Whether an event is a return.
-pub fn is_return(event: Event) -> bool
-    ensures { result ≡ is_return event }
-{
-    match event {
-        Event::Tick(_) => false,
-        Event::Press(_) => false,
-        Event::Cut => false,
-        Event::Return(_) => true,
-    }
+    matches!(event, Event::Tick(_)) & idle
 }
 
 // Whether the alarms that the record holds are within their bounds.

@@ -1,5 +1,5 @@
 // The credits.
-ghost use Rattle.std.specs.Prelude.{◌≡◌, length};
+ghost use Rattle.std.specs.Prelude.{◌≡◌};
 ghost use Rattle.plain.specs.Record.{credits_in};
 ghost use Rattle.plain.specs.Run.{credited};
 
@@ -7,8 +7,8 @@ use plain::Credit;
 use run::{one_more, place_of};
 
 // What an event does to the credits.
+#[tactic(auto, using(crate::proofs::Laws::set_past), unfolding(plain::specs::Run::credited, plain::specs::Run::cooked))]
 pub fn settle(credits: &mut [u32; 99], store: &[u8], credit: Credit)
-    requires { length credits.old ≡ 99 }
     ensures { credits.new ≡ credited credit (credits_in store.now) credits.old }
 {
     match credit {
@@ -16,16 +16,10 @@ pub fn settle(credits: &mut [u32; 99], store: &[u8], credit: Credit)
         Credit::Cook(k) => {
             let at = place_of(k);
             if at < 99 {
-                let so_far = credits[at];
-                credits[at] = one_more(so_far);
+                credits[at] = one_more(credits[at]);
             }
         }
-        Credit::Clear => {
-            *credits = [0; 99];
-        }
-        Credit::Restore => {
-            let held = checkpoint::read_credits(store);
-            *credits = held;
-        }
+        Credit::Clear => *credits = [0; 99],
+        Credit::Restore => *credits = checkpoint::read_credits(store),
     }
 }

@@ -7,11 +7,12 @@ ghost use Rattle.plain.specs.Event.{final};
 ghost use Rattle.plain.specs.Listed.{events_in};
 ghost use Rattle.making.specs.Ran.{after_ran};
 
+pub use crate::credits::settle;
 pub use crate::events::event;
 use alarm::Alarms;
 use making::Ran;
 use measure::Measured;
-use plain::{Answer, Config, Refusal};
+use plain::{Config, Refusal};
 use position::{Here, Position};
 
 mod answers;
@@ -31,14 +32,12 @@ struct Progress {
     measured: Measured,
 }
 
-// What an event does, without what it shows and what becomes of credits and alarms.
+// What an accepted event does, without what it shows and what becomes of credits and alarms.
 #[derive(Clone, Copy)]
 struct Done {
     power: bool,
     progress: Progress,
     saves: bool,
-    accepted: bool,
-    refusal: Refusal, // if it is not accepted
 }
 
 // What goes from one event of a list to the next; `here` is what is said at the position.
@@ -49,8 +48,7 @@ struct Moved {
     here: Here,
     power: bool,
     idle: bool, // whether no tick moves the alarms
-    accepted: bool,
-    refusal: Refusal, // if the event is not accepted
+    verdict: Result<(), Refusal>,
 }
 
 // A controller is made, and a list of events, five bytes each, is run by it: what the last event leaves, or making if it is refused or there is
@@ -59,9 +57,8 @@ pub fn run(bank: &[u8], config: Config, store: &mut [u8], bytes: &[u8]) -> Ran
     ensures { after_ran result store.new ≡ final (over bank.now config) store.old (events_in bytes.now) }
 {
     let made = making::make(bank, config, store);
-    let first = made.answer;
-    let Answer::Accepted(_) = first else {
-        return made;
-    };
-    list::run_from(bank, config, store, made, bytes)
+    match made.answer {
+        Ok(_) => list::run_from(bank, config, store, made, bytes),
+        Err(_) => made,
+    }
 }

@@ -10,12 +10,12 @@ ghost use Rattle.effect.specs.Ran.{state_from, ran_by, turn_of, after_moved, Tol
 
 use crate::Moved;
 use crate::answers::{answered, by_parts, progress_of, with_alarms};
-use crate::beside::{alarms_by, credit_after, is_bounded, is_return, keeps};
+use crate::beside::{alarms_by, credit_after, keeps};
 use crate::credits::settle;
 use crate::events::known;
 use listed::asked_at;
 use making::Ran;
-use plain::{Asked, Config, Refusal};
+use plain::{Config, Event};
 use setting::Settings;
 
 // What is asked for, if anything is. What only moved alarms need is made where they move, and whether no tick moves them is looked up only then.
@@ -26,43 +26,40 @@ fn turn(
     store: &mut [u8],
     credits: &mut [u32; 99],
     moved: Moved,
-    asked: Asked,
+    asked: Option<Event>,
 ) -> Moved
     requires { Within (over bank.now config) settings moved.here moved.idle (state_from moved credits.old) store.old }
     ensures store_after { after_moved (over bank.now config) result credits.new store.new
         ≡ turn_of (over bank.now config) moved credits.old store.old asked }
     ensures told { Told (over bank.now config) settings result }
 {
-    let Asked::Of(event) = asked else {
+    let Some(event) = asked else {
         return moved;
     };
     let from = moved.progress;
-    let before = from.position;
     let here = moved.here;
     let power = moved.power;
-    let fits = if is_return(event) {
-        is_bounded(config, &store[..])
-    } else {
-        true
+    let done = match known(bank, config, settings, here, store, power, from, event) {
+        Ok(done) => done,
+        Err(refusal) => {
+            return Moved {
+                verdict: Err(refusal),
+                ..moved
+            };
+        }
     };
-    let done = known(bank, settings, here, &store[..], power, from, fits, event);
     let left = by_parts(done.progress);
     let position = left.position;
-    let accepted = done.accepted;
-    let refusal = done.refusal;
-    let there = program::here_after(bank, settings, here, before, position);
+    let there = program::here_after(bank, settings, here, from.position, position);
     let mut alarms = moved.alarms;
     let mut idle = moved.idle;
-    if !keeps(accepted, idle, event) {
-        let held = moved.alarms;
-        alarms = alarms_by(config, there, &store[..], event, held, by_parts(left));
+    if !keeps(idle, event) {
+        alarms = alarms_by(config, there, store, event, alarms, by_parts(left));
         idle = judge::idle(config.alarms, alarms);
     }
-    let credit = credit_after(event, before, accepted);
-    settle(credits, &store[..], credit);
+    settle(credits, store, credit_after(event, from.position));
     if done.saves {
-        let saved = *credits;
-        checkpoint::write(store, position, saved, alarms);
+        checkpoint::write(store, position, *credits, alarms);
     }
     Moved {
         power: done.power,
@@ -70,8 +67,7 @@ fn turn(
         alarms,
         here: there,
         idle,
-        accepted,
-        refusal,
+        verdict: Ok(()),
     }
 }
 
@@ -79,16 +75,12 @@ fn turn(
 fn ended(settings: Settings, moved: Moved, credits: [u32; 99]) -> Ran
     ensures { result ≡ ran_by settings moved credits }
 {
-    let progress = moved.progress;
-    let position = progress.position;
-    let here = moved.here;
-    let accepted = moved.accepted;
-    let refusal = moved.refusal;
+    let position = moved.progress.position;
     Ran {
         power: moved.power,
-        run: with_alarms(progress, moved.alarms),
+        run: with_alarms(moved.progress, moved.alarms),
         credits,
-        answer: answered(settings, here, position, accepted, refusal),
+        answer: answered(settings, moved.here, position, moved.verdict),
     }
 }
 
@@ -113,13 +105,10 @@ pub fn run_from(bank: &[u8], config: Config, store: &mut [u8], made: Ran, bytes:
             position.step,
             position.pass,
         ),
-        accepted: true,
-        refusal: Refusal::Unsound, // none
+        verdict: Ok(()),
     };
     let mut credits = made.credits;
-    let mut at: usize = 0;
-    let mut remaining = bytes.len() / 5;
-    while 0 < remaining {
+    for i in 0..bytes.len() / 5 {
         moved = turn(
             bank,
             config,
@@ -127,10 +116,8 @@ pub fn run_from(bank: &[u8], config: Config, store: &mut [u8], made: Ran, bytes:
             store,
             &mut credits,
             moved,
-            asked_at(bytes, at),
+            asked_at(bytes, 5 * i),
         );
-        at += 5;
-        remaining -= 1;
     }
     ended(settings, moved, credits)
 }

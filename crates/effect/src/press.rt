@@ -2,9 +2,9 @@
 ghost use Rattle.plain.specs.declared.Event.{Event};
 ghost use Rattle.effect.specs.Done.{DoesPress};
 
-use crate::answers::{accepted, refused};
+use crate::answers::accepted;
 use crate::{Done, Progress};
-use plain::{Move, Refusal};
+use plain::Refusal;
 use position::{Command, Here};
 use setting::Settings;
 
@@ -16,21 +16,13 @@ pub fn press(
     power: bool,
     mut progress: Progress,
     pressed: Command,
-) -> Done
+) -> Result<Done, Refusal>
     ensures { DoesPress bank.now settings here power progress (Event.Press pressed) result }
 {
     if !power {
-        return refused(power, progress, Refusal::PowerOff);
+        return Err(Refusal::PowerOff);
     }
-    let before = progress.position;
-    let value = progress.measured;
-    let whole = measure::whole_value(value);
-    let made = command::command(bank, settings, here, whole, before, pressed);
-    match made {
-        Move::To(position) => {
-            progress.position = position;
-            accepted(true, progress)
-        }
-        Move::No(refusal) => refused(power, progress, refusal),
-    }
+    let whole = measure::whole_value(progress.measured);
+    progress.position = command::command(bank, settings, here, whole, progress.position, pressed)?;
+    Ok(accepted(true, progress))
 }

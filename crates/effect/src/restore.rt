@@ -3,14 +3,16 @@ ghost use Rattle.plain.specs.Run.{return_by};
 ghost use Rattle.plain.specs.declared.Event.{Event};
 ghost use Rattle.effect.specs.Done.{BroughtBack, Returned, DoesReturn};
 
-use crate::answers::{accepted, refused};
+use crate::answers::accepted;
+use crate::beside::is_bounded;
 use crate::{Done, Progress};
 use measure::{Measured, Reading};
-use plain::Refusal;
+use plain::{Config, Refusal};
 use position::Here;
 use setting::Settings;
 
 // What a record brings back, before the choices.
+#[tactic(auto, unfolding(plain::specs::Event::brought_back))]
 fn brought_back(store: &[u8]) -> Progress
     ensures { BroughtBack store.now result }
 {
@@ -22,12 +24,13 @@ fn brought_back(store: &[u8]) -> Progress
 }
 
 // The reading becomes a first reading, u is 0, the choices apply.
+#[tactic(auto, unfolding(plain::specs::Run::return_by))]
 fn returned(settings: Settings, here: Here, reading: Reading, progress: Progress) -> Progress
     ensures { Returned (return_by settings here reading) progress result }
 {
     let measured = measure::first(reading);
-    let before = progress.position;
-    let position = retained::returned(settings, here, measure::whole_value(measured), before);
+    let whole = measure::whole_value(measured);
+    let position = retained::returned(settings, here, whole, progress.position);
     Progress {
         position,
         unsaved: 0,
@@ -35,23 +38,22 @@ fn returned(settings: Settings, here: Here, reading: Reading, progress: Progress
     }
 }
 
-// A return: 24, 25, 31; `bounded` says whether the alarms that the record holds are within their bounds.
+// A return: 24, 25, 31. The alarms that the record holds have to be within their bounds.
 pub fn restore(
     bank: &[u8],
+    config: Config,
     settings: Settings,
     store: &[u8],
     power: bool,
-    progress: Progress,
-    bounded: bool,
     reading: Reading,
-) -> Done
-    ensures { DoesReturn bank.now store.now settings power progress bounded (Event.Return reading) result }
+) -> Result<Done, Refusal>
+    ensures { DoesReturn bank.now config store.now settings power (Event.Return reading) result }
 {
     if power {
-        return refused(power, progress, Refusal::PowerOn);
+        return Err(Refusal::PowerOn);
     }
     if measure::outside(reading) {
-        return refused(power, progress, Refusal::Outside);
+        return Err(Refusal::Outside);
     }
     let back = brought_back(store);
     let position = back.position;
@@ -62,9 +64,8 @@ pub fn restore(
         position.step,
         position.pass,
     );
-    let readable = retained::readable(settings, there, position) & bounded;
-    if !readable {
-        return refused(power, progress, Refusal::Unreadable);
+    if !(retained::readable(settings, there, position) & is_bounded(config, store)) {
+        return Err(Refusal::Unreadable);
     }
-    accepted(true, returned(settings, there, reading, back))
+    Ok(accepted(true, returned(settings, there, reading, back)))
 }

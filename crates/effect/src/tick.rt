@@ -4,7 +4,7 @@ ghost use Rattle.plain.specs.Run.{measuring, counting, stepping, tick_by};
 ghost use Rattle.plain.specs.declared.Event.{Event};
 ghost use Rattle.effect.specs.Done.{Leaves, IsSaving, Does};
 
-use crate::answers::{accepted, refused};
+use crate::answers::accepted;
 use crate::{Done, Progress};
 use measure::Reading;
 use plain::Refusal;
@@ -12,35 +12,34 @@ use position::Here;
 use setting::Settings;
 
 // The measured value is updated.
+#[tactic(auto, unfolding(plain::specs::Run::measuring))]
 fn measured(settings: Settings, reading: Reading, progress: Progress) -> Progress
     ensures { Leaves (measuring settings reading) progress result }
 {
-    let before = progress.measured;
-    let position = progress.position;
     Progress {
-        position,
+        position: progress.position,
         unsaved: progress.unsaved,
-        measured: measure::after(before, reading, settings.filter),
+        measured: measure::after(progress.measured, reading, settings.filter),
     }
 }
 
 // u gains 1.
+#[tactic(auto, unfolding(plain::specs::Run::counting))]
 fn counted(mut progress: Progress) -> Progress
     requires { progress.unsaved < 255 }
     ensures { Leaves counting progress result }
 {
-    progress.unsaved = progress.unsaved + 1;
+    progress.unsaved += 1;
     progress
 }
 
 // In mode 1 a second of the step passes.
+#[tactic(auto, unfolding(plain::specs::Run::stepping))]
 fn stepped(here: Here, mut progress: Progress) -> Progress
     ensures { Leaves (stepping here) progress result }
 {
-    let value = progress.measured;
-    let before = progress.position;
-    let position = time::tick(here, measure::whole_value(value), before);
-    progress.position = position;
+    let whole = measure::whole_value(progress.measured);
+    progress.position = time::tick(here, whole, progress.position);
     progress
 }
 
@@ -53,6 +52,7 @@ fn ticked(settings: Settings, here: Here, reading: Reading, progress: Progress) 
 }
 
 // A tick saves if it changes mode, step or pass, or makes u 60.
+#[tactic(auto, unfolding(plain::specs::Run::tick_saves, position::specs::Tests::either))]
 fn saves(before: Progress, after: Progress) -> bool
     ensures { IsSaving before after result }
 {
@@ -69,16 +69,16 @@ pub fn tick(
     power: bool,
     progress: Progress,
     reading: Reading,
-) -> Done
+) -> Result<Done, Refusal>
     requires { power ≡ true → progress.unsaved < 60 }
     ensures { Does settings here power progress (Event.Tick reading) result }
 {
     if !power {
-        return refused(power, progress, Refusal::PowerOff);
+        return Err(Refusal::PowerOff);
     }
     if measure::outside(reading) {
-        return refused(power, progress, Refusal::Outside);
+        return Err(Refusal::Outside);
     }
     let next = ticked(settings, here, reading, progress);
-    accepted(saves(progress, next), next)
+    Ok(accepted(saves(progress, next), next))
 }

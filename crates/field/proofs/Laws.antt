@@ -5,7 +5,7 @@ use mathlib.Core.Bool.{Bool, true, false, cond, false≢true}
 use mathlib.Core.Logic.{◌⊎◌, inl, inr}
 use mathlib.Core.List.{List, [], ◌∷◌, ◌++◌}
 use Prim.Native.Nat.{ℕ, zero, suc, ◌+◌, ◌*◌, ◌-◌, ◌/◌, ◌%◌, ◌^◌, ◌≤◌, ◌<◌}
-use native.Mathlib.Nat.{suc-add, pow-suc, pow-succ', pow-zero, add-zero, one-mul, mul_assoc, div-lt_iff_lt-mul}
+use native.Mathlib.Nat.{suc-add, pow-suc, pow-succ', pow-zero, add-zero, zero-add, one-mul, mul_comm, mul_assoc, div-lt_iff_lt-mul}
 use native.Mathlib.Numerals.{add-one}
 use native.Mathlib.Omega.{arith}
 use borrow.Author.Tests.{le-leb, lt-leb, leb-false}
@@ -13,10 +13,11 @@ use lib.Dec.{T, leb, lit<}
 use lib.IntN.{ℤ, pos, negsuc, nat_abs}
 use lib.Signed.{le_z, non_neg}
 use lib.ListN.{length, take, drop, get_or, set, length-set}
-use lib.Seq.{sets, length-sets, drop-cons, drop-nil, take-nil, take_at, get_or-set_same, get_or-set_other, ext_get_or}
+use lib.Seq.{sets, length-sets, take-suc-set, append_snoc, drop-cons, drop-nil, take-nil, take_at, get_or-set_same, get_or-set_other, ext_get_or}
 use mir.Syntax.{Width, w8, w16, w32, w64, w128}
 use mir.Val.{bits, hbits, Fits, SFits, to_z, of_z}
 use mir.Facts.{to_z-of_z, of_z-to_z, Fits-of_z}
+use Rattle.std.specs.Int.{byte_worth, sum_through, from_le_bytes}
 use Rattle.field.specs.Field.{num, field, digits, stored, bytes, signed_field}
 
 -- ---- reading
@@ -85,6 +86,28 @@ field-same (suc width) a buffer i j h =
   where
     one_more : (number index : ℕ) → number + suc index ≡ number + 1 + index
     one_more number index = omega arith
+
+-- the number whose bytes, low byte first, stand at an offset is the field there
+pub le_bytes-field : (width : Width) (bs buffer : List ℕ) (at : ℕ) → ((index : ℕ) → index < bytes width → get_or bs index 0 ≡ get_or buffer (at + index) 0)
+    → from_le_bytes width bs ≡ field (bytes width) buffer at
+le_bytes-field width bs buffer at h = whole width ∙ field-same (bytes width) bs buffer 0 at (λ index l. simp zero-add (h index l))
+  where
+    through : (count : ℕ) → sum_through (λ i. byte_worth i (get_or bs i 0)) count ≡ field (suc count) bs 0
+    through zero = sym (field-one bs 0)
+    through (suc count) =
+        let b = get_or bs (suc count) 0 in
+        let p = 256 ^ suc count in
+        let more : field (suc (suc count)) bs 0 ≡ field (suc count) bs 0 + p * field 1 bs (0 + suc count) = rw add-one at (field-split (suc count) 1 bs 0) in
+        let one : field 1 bs (0 + suc count) ≡ b = rw zero-add (field-one bs (suc count)) in
+        let turned : b * p ≡ p * field 1 bs (0 + suc count) = mul_comm b p ∙ ap (λ (x : ℕ). p * x) (sym one) in
+        omega (arith, through count)
+
+    whole : (width : Width) → from_le_bytes width bs ≡ field (bytes width) bs 0
+    whole w8 = through 0
+    whole w16 = through 1
+    whole w32 = through 3
+    whole w64 = through 7
+    whole w128 = through 15
 
 -- the number read is below the width's power
 pub field_below : (width : ℕ) (buffer : List ℕ) (i : ℕ) → Bytes buffer → field width buffer i < 256 ^ width
@@ -252,10 +275,6 @@ halves w32 = refl
 halves w64 = refl
 halves w128 = refl
 
--- the complement of the complement has the bits again
-pub complement : (width : Width) (x : ℕ) → x ≤ ones width → to_z width (ones width - (ones width - x)) ≡ to_z width x
-complement width x h = let same : ones width - (ones width - x) ≡ x = omega arith in ap (to_z width) same
-
 -- the bits of a signed number that is not below 0, and of one that is
 pub lower : (width : Width) (x : ℤ) → SFits width x → le_z (pos 0) x ≡ true → (T (non_neg x) × Fits width (nat_abs x)) × (nat_abs x ≡ of_z width x)
 lower width (pos number) f same = ((tt, Fits-of_z f), refl)
@@ -267,11 +286,10 @@ upper width (negsuc number) f same = (omega (arith, f.sfits, halves width), omeg
 
 -- ---- the loop
 
--- a turn of the loop that writes: the rest of the bytes, stored from one place further
-pub write-turn : (buffer : List ℕ) (at i width x : ℕ) → i < width
-    → sets (set buffer (at + i) (x % 256)) (at + (i + 1)) (digits (width - (i + 1)) (x / 256)) ≡ sets buffer (at + i) (digits (width - i) x)
+-- a turn of the loop that writes: one byte more, and the bytes of what is left of the number
+pub write-turn : (place : List ℕ) (i width x : ℕ) → i < length place → i < width
+    → take (i + 1) (set place i (x % 256)) ++ digits (width - (i + 1)) (x / 256) ≡ take i place ++ digits (width - i) x
 unfolding digits
-write-turn buffer at i width x h =
+write-turn place i width x h l =
     let same : width - i ≡ suc (width - (i + 1)) = omega arith in
-    let f : at + (i + 1) ≡ suc (at + i) = omega arith in
-    rw (same, f)
+    rw (same, add-one, take-suc-set place i (x % 256) h, append_snoc)

@@ -8,14 +8,16 @@ ghost use Rattle.demand.specs.Run.{after_run, run_outcome, Meets};
 
 use controller::State;
 use listed::is_list;
-use plain::{Config, Reply};
+use making::Ran;
+use plain::{AnyRefusal, Config};
+use position::Shown;
 use run::dark_run;
 
 // What running a list gives back beside the record: the last state and the reply.
 #[derive(Clone, Copy)]
 pub struct Outcome {
     pub state: State,
-    pub reply: Reply,
+    pub reply: Option<Result<Shown, AnyRefusal>>,
 }
 
 // A controller is made, and the list is run by it: the state, the record and the answer that the last event leaves, making's if the list is
@@ -31,19 +33,21 @@ pub fn run(bank: &[u8], config: Config, store: &mut [u8], events: &[u8]) -> Outc
                 run: dark_run(),
                 credits: [0; 99],
             },
-            reply: Reply::NoForm,
+            reply: None,
         };
     }
-    let ran = effect::run(bank, config, store, events);
-    let run = ran.run;
-    let credits = ran.credits;
-    let answer = ran.answer;
+    let Ran {
+        power,
+        run,
+        credits,
+        answer,
+    } = effect::run(bank, config, store, events);
     Outcome {
         state: State {
-            power: ran.power,
+            power,
             run,
             credits,
         },
-        reply: Reply::Given(answer),
+        reply: Some(answer),
     }
 }

@@ -9,39 +9,37 @@ ghost use Rattle.alarm.specs.Idle.{all_idle};
 
 use crate::one::judged_by;
 use alarm::{AlarmSettings, Alarms};
-use measure::{Measured, Whole, whole_value};
+use measure::{Measured, whole_value};
 use position::{Here, Position};
 use ramp::set_value;
 
 mod one;
 
 // Whether no tick moves the alarms: all are of kind 0 without standby, and cleared.
+#[tactic(auto, unfolding(position::specs::Tests::both, position::specs::Tests::all, alarm::specs::Idle::all_idle))]
 pub fn idle(settings: AlarmSettings, alarms: Alarms) -> bool
     ensures { result ≡ all_idle settings alarms }
 {
-    let first = one::idle(settings.first, alarms.first);
-    let second = one::idle(settings.second, alarms.second);
-    let third = one::idle(settings.third, alarms.third);
-    first & (second & (third & one::idle(settings.fourth, alarms.fourth)))
+    one::idle(settings.first, alarms.first)
+        & one::idle(settings.second, alarms.second)
+        & one::idle(settings.third, alarms.third)
+        & one::idle(settings.fourth, alarms.fourth)
 }
 
 // All four, judged.
 fn all_judged(settings: AlarmSettings, whole: i16, set: i16, alarms: Alarms) -> Alarms
     ensures { result ≡ all_judged settings whole set alarms }
 {
-    let first = judged_by(whole, set, settings.first, alarms.first);
-    let second = judged_by(whole, set, settings.second, alarms.second);
-    let third = judged_by(whole, set, settings.third, alarms.third);
-    let fourth = judged_by(whole, set, settings.fourth, alarms.fourth);
     Alarms {
-        first: first,
-        second: second,
-        third: third,
-        fourth: fourth,
+        first: judged_by(whole, set, settings.first, alarms.first),
+        second: judged_by(whole, set, settings.second, alarms.second),
+        third: judged_by(whole, set, settings.third, alarms.third),
+        fourth: judged_by(whole, set, settings.fourth, alarms.fourth),
     }
 }
 
 // What a tick leaves, by the position and the measured value after its own step.
+#[tactic(auto, unfolding(position::specs::Tests::either, alarm::specs::Alarm::tick_alarms))]
 pub fn tick(
     settings: AlarmSettings,
     here: Here,
@@ -51,11 +49,11 @@ pub fn tick(
 ) -> Alarms
     ensures { result ≡ tick_alarms settings position.mode (whole_of measured) (set_value_of here position) alarms }
 {
-    if (position.mode == 1) | (position.mode == 2) {
-        let Whole::Value(whole) = whole_value(measured) else {
-            return alarms;
-        };
-        return all_judged(settings, whole, set_value(here, position), alarms);
+    if !matches!(position.mode, 1 | 2) {
+        return alarms;
     }
-    alarms
+    match whole_value(measured) {
+        Some(whole) => all_judged(settings, whole, set_value(here, position), alarms),
+        None => alarms,
+    }
 }

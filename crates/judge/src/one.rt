@@ -7,11 +7,11 @@ ghost use Rattle.alarm.specs.Idle.{is_idle};
 use alarm::{Alarm, AlarmSetting};
 
 // Whether no tick moves an alarm: it is of kind 0 without standby, and cleared.
+#[tactic(auto, unfolding(position::specs::Tests::both, position::specs::Tests::all, alarm::specs::Idle::is_clear, alarm::specs::Idle::is_idle))]
 pub fn idle(setting: AlarmSetting, alarm: Alarm) -> bool
     ensures { result ≡ is_idle setting alarm }
 {
-    (setting.kind == 0)
-        & (!(setting.flags / 2 % 2 == 1) & ((alarm.flags == 0) & (alarm.count == 0)))
+    (setting.kind == 0) & (setting.flags / 2 % 2 != 1) & (alarm.flags == 0) & (alarm.count == 0)
 }
 
 // Whether a value is at least a bound less the widening.
@@ -29,102 +29,94 @@ fn at_most(bound: i16, widening: u16, value: i32) -> bool
 }
 
 // The value that an alarm judges.
+#[tactic(auto, unfolding(alarm::specs::Alarm::judged_value))]
 fn judged_value(setting: AlarmSetting, whole: i16, set: i16) -> i32
     ensures { result ≡ judged_value setting whole set }
 {
     if setting.kind <= 4 {
-        return whole as i32 - set as i32;
+        whole as i32 - set as i32
+    } else {
+        whole as i32
     }
-    whole as i32
 }
 
 // Whether an alarm's condition is true of a value.
+#[tactic(auto, unfolding(position::specs::Tests::within, position::specs::Tests::both, position::specs::Tests::either, alarm::specs::Alarm::condition))]
 fn is_true(setting: AlarmSetting, widening: u16, value: i32) -> bool
     ensures { result ≡ condition setting widening value }
 {
-    let kind = setting.kind;
     let over = at_least(setting.high, widening, value);
     let under = at_most(setting.low, widening, value);
-    if (kind == 1) | (kind == 5) {
-        return over | under;
+    match setting.kind {
+        1 | 5 => over | under,
+        2 | 6 => over,
+        3 | 7 => under,
+        4 | 8 => at_least(setting.low, widening, value) & at_most(setting.high, widening, value),
+        _ => false,
     }
-    if (kind == 2) | (kind == 6) {
-        return over;
-    }
-    if (kind == 3) | (kind == 7) {
-        return under;
-    }
-    ((kind == 4) | (kind == 8))
-        & (at_least(setting.low, widening, value) & at_most(setting.high, widening, value))
 }
 
 // The condition, once on with C.
+#[tactic(auto, unfolding(alarm::specs::Alarm::holds_at))]
 fn holds_at(setting: AlarmSetting, alarm: Alarm, value: i32) -> bool
     ensures { result ≡ holds_at setting alarm value }
 {
-    if alarm.flags % 2 == 1 {
-        return is_true(setting, setting.sensitivity, value);
-    }
-    is_true(setting, 0, value)
+    let widening = if alarm.flags % 2 == 1 {
+        setting.sensitivity
+    } else {
+        0
+    };
+    is_true(setting, widening, value)
 }
 
 // Whether standby waits.
+#[tactic(auto, unfolding(position::specs::Tests::both, alarm::specs::Alarm::waits))]
 fn is_waiting(setting: AlarmSetting, alarm: Alarm) -> bool
     ensures { result ≡ waits setting alarm }
 {
-    (setting.flags / 2 % 2 == 1) & !(alarm.flags / 2 % 2 == 1)
+    (setting.flags / 2 % 2 == 1) & (alarm.flags / 2 % 2 != 1)
 }
 
 // Whether an alarm is on after a tick whose condition is so.
+#[tactic(auto, unfolding(position::specs::Tests::both, position::specs::Tests::either, alarm::specs::Alarm::on_after))]
 fn on_after(setting: AlarmSetting, alarm: Alarm, test: bool) -> bool
     ensures { result ≡ on_after setting alarm test }
 {
     if is_waiting(setting, alarm) {
-        return false;
+        false
+    } else if alarm.flags % 2 == 1 {
+        test | (setting.flags % 2 == 1)
+    } else {
+        test & (setting.delay <= alarm.count)
     }
-    if alarm.flags % 2 == 1 {
-        return test | (setting.flags % 2 == 1);
-    }
-    test & (setting.delay <= alarm.count)
 }
 
 // A flag byte.
+#[tactic(auto, unfolding(alarm::specs::Alarm::flags_of))]
 fn flags_of(on: bool, passed: bool) -> u8
     ensures { result ≡ flags_of on passed }
 {
-    if on {
-        if passed { 3 } else { 1 }
-    } else {
-        if passed { 2 } else { 0 }
-    }
+    on as u8 + 2 * passed as u8
 }
 
 // An alarm after a tick whose condition is so.
+#[tactic(auto, unfolding(position::specs::Tests::both, position::specs::Tests::either, alarm::specs::Alarm::waits, alarm::specs::Alarm::on_after, alarm::specs::Alarm::passed_after, alarm::specs::Alarm::count_after, alarm::specs::Alarm::alarm_after))]
 fn alarm_after(setting: AlarmSetting, alarm: Alarm, test: bool) -> Alarm
     ensures { result ≡ alarm_after setting alarm test }
 {
     let on = on_after(setting, alarm, test);
     let passed = (setting.flags / 2 % 2 == 1) & ((alarm.flags / 2 % 2 == 1) | !test);
     let flags = flags_of(on, passed);
-    if !test | (is_waiting(setting, alarm) | on) {
-        return Alarm {
-            flags: flags,
-            count: 0,
-        };
-    }
-    Alarm {
-        flags: flags,
-        count: alarm.count + 1,
-    }
+    let is_counting = test & !is_waiting(setting, alarm) & !on;
+    let count = if is_counting { alarm.count + 1 } else { 0 };
+    Alarm { flags, count }
 }
 
 // An alarm judged by a measured whole value and a set value.
+#[tactic(auto, unfolding(alarm::specs::Alarm::judged_by))]
 pub fn judged_by(whole: i16, set: i16, setting: AlarmSetting, alarm: Alarm) -> Alarm
     ensures { result ≡ judged_by whole set setting alarm }
 {
-    alarm_after(
-        setting,
-        alarm,
-        holds_at(setting, alarm, judged_value(setting, whole, set)),
-    )
+    let value = judged_value(setting, whole, set);
+    alarm_after(setting, alarm, holds_at(setting, alarm, value))
 }

@@ -1,90 +1,51 @@
 // The keys of a line.
-ghost use Rattle.std.specs.Prelude.{◌≡◌, cond};
-ghost use Rattle.key.specs.Line.{key_of, is_only, tick_of, return_of, valued as valued_of};
-ghost use Rattle.plain.specs.declared.Event.{Event};
+ghost use Rattle.std.specs.Prelude.{◌≡◌};
+ghost use Rattle.key.specs.Line.{key_of, reading_of, valued as valued_of};
 
-use crate::Number;
 use crate::value::number;
-use field::byte;
 use measure::Reading;
-use plain::{Asked, Event};
+use plain::Event;
 use position::Command;
 
 // A key by itself.
 #[tactic(auto, unfolding(crate::specs::Line::key_of))]
-pub fn alone(c: u8) -> Asked
+pub fn alone(c: u8) -> Option<Event>
     ensures { result ≡ key_of c }
 {
     match c {
-        b'S' => Asked::Of(Event::Press(Command::Start)),
-        b'P' => Asked::Of(Event::Press(Command::Pause)),
-        b'X' => Asked::Of(Event::Press(Command::Reset)),
-        b'F' => Asked::Of(Event::Press(Command::Feed)),
-        b'B' => Asked::Of(Event::Press(Command::Back)),
-        b'+' => Asked::Of(Event::Press(Command::Plus)),
-        b'-' => Asked::Of(Event::Press(Command::Minus)),
-        b'C' => Asked::Of(Event::Cut),
-        _ => Asked::NoForm,
+        b'S' => Some(Event::Press(Command::Start)),
+        b'P' => Some(Event::Press(Command::Pause)),
+        b'X' => Some(Event::Press(Command::Reset)),
+        b'F' => Some(Event::Press(Command::Feed)),
+        b'B' => Some(Event::Press(Command::Back)),
+        b'+' => Some(Event::Press(Command::Plus)),
+        b'-' => Some(Event::Press(Command::Minus)),
+        b'C' => Some(Event::Cut),
+        _ => None,
     }
 }
 
-// Whether a value is one byte, c.
-fn is_only(c: u8, cs: &[u8]) -> bool
-    ensures { result ≡ is_only c cs.now }
+// The reading of a value: H is over, L under.
+#[tactic(auto, unfolding(crate::specs::Line::reading_of, crate::specs::Line::is_only, limits::specs::Range::both, crate::specs::Line::value_of))]
+fn reading(cs: &[u8]) -> Option<Reading>
+    ensures { result ≡ reading_of cs.now }
 {
-    if cs.len() != 1 {
-        return false;
+    match cs {
+        [b'H'] => Some(Reading::Over),
+        [b'L'] => Some(Reading::Under),
+        _ => number(cs).map(Reading::Value),
     }
-    byte(cs, 0) == c
-}
-
-// N: the pattern asked for.
-#[tactic(auto, unfolding(crate::specs::Line::valued, crate::specs::Line::select))]
-fn select(cs: &[u8]) -> Asked
-    ensures { result ≡ valued_of 78 cs.now }
-{
-    let Number::Value(q) = number(cs) else {
-        return Asked::NoForm;
-    };
-    Asked::Of(Event::Press(Command::Select(q)))
-}
-
-// A tick, or a return.
-fn event(reading: Reading, returns: bool) -> Event
-    ensures { result ≡ cond returns (Event.Return reading) (Event.Tick reading) }
-{
-    if returns {
-        return Event::Return(reading);
-    }
-    Event::Tick(reading)
-}
-
-// T and R: H is over, L under.
-#[tactic(auto, using(crate::proofs::Laws::number))]
-fn reading(cs: &[u8], returns: bool) -> Asked
-    ensures { result ≡ cond returns (return_of cs.now) (tick_of cs.now) }
-{
-    if is_only(b'H', cs) {
-        return Asked::Of(event(Reading::Over, returns));
-    }
-    if is_only(b'L', cs) {
-        return Asked::Of(event(Reading::Under, returns));
-    }
-    let Number::Value(v) = number(cs) else {
-        return Asked::NoForm;
-    };
-    Asked::Of(event(Reading::Value(v), returns))
 }
 
 // A key with a value.
-#[tactic(auto, unfolding(crate::specs::Line::valued))]
-pub fn valued(c: u8, cs: &[u8]) -> Asked
+#[tactic(auto, using(crate::proofs::Laws::tick_is, crate::proofs::Laws::return_is), unfolding(crate::specs::Line::valued, crate::specs::Line::select))]
+pub fn valued(c: u8, cs: &[u8]) -> Option<Event>
     ensures { result ≡ valued_of c cs.now }
 {
     match c {
-        b'N' => select(cs),
-        b'T' => reading(cs, false),
-        b'R' => reading(cs, true),
-        _ => Asked::NoForm,
+        b'N' => number(cs).map(|q| Event::Press(Command::Select(q))),
+        b'T' => reading(cs).map(Event::Tick),
+        b'R' => reading(cs).map(Event::Return),
+        _ => None,
     }
 }

@@ -4,29 +4,19 @@
 ghost use Rattle.std.specs.Prelude.{◌≡◌};
 ghost use Rattle.key.specs.Line.{asked_by};
 
-use field::byte;
-use plain::Asked;
+use plain::Event;
 
 mod key;
 mod value;
 
-// A number, or text that is none.
-#[derive(Clone, Copy)]
-pub enum Number {
-    NoForm,
-    Value(i32),
-}
-
 // What a line asks for. The line is its bytes, without the newline that ends it.
-pub fn parse(line: &[u8]) -> Asked
+#[tactic(auto, unfolding(crate::specs::Line::asked_by))]
+pub fn parse(line: &[u8]) -> Option<Event>
     ensures { result ≡ asked_by line.now }
 {
-    let c = byte(line, 0);
-    if line.len() == 1 {
-        return key::alone(c);
+    match line {
+        [c] => key::alone(*c),
+        [c, b' ', value @ ..] => key::valued(*c, value),
+        _ => None,
     }
-    if byte(line, 1) != b' ' {
-        return Asked::NoForm;
-    }
-    key::valued(c, &line[2..])
 }

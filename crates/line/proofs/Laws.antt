@@ -7,18 +7,20 @@ use mathlib.Core.Path.{◌≡◌, refl, sym, ap, ◌∙◌}
 use native.Mathlib.Nat.{zero-add}
 use native.Mathlib.Numerals.{add-one}
 use native.Mathlib.Omega.{arith}
-use borrow.Author.Tests.{leb-true, leb-false}
-use lib.Dec.{eqb, leb}
+use lib.Dec.{eqb}
 use lib.IntN.{ℤ, pos}
 use lib.ListN.{length, take, get_or, set, length-append}
 use lib.Seq.{sets, take_all, take_at, take-suc, take-suc-set, length-take-le}
 use mir.Facts.{to_z_pos}
 use mir.Syntax.{w64}
 use mir.Val.{to_z}
+use Rattle.std.proofs.lemmas.Bool.{cond_both}
+use Rattle.std.proofs.lemmas.List.{take_min}
 use Rattle.field.proofs.Laws.{sets-append}
-use Rattle.setting.specs.Found.{numbers_of as bank_numbers, unless}
-use Rattle.setting.specs.declared.Checked.{Checked}
-use Rattle.setting.specs.declared.Checked.TheVariants.{Accepted, Short, Setting, Pair, Body}
+use Rattle.setting.specs.Found.{Checked, is_accepted, numbers_of as bank_numbers, unless}
+use Rattle.setting.proofs.Laws.{numbers-tell}
+use Rattle.setting.specs.declared.BankRefusal.{BankRefusal}
+use Rattle.setting.specs.declared.BankRefusal.TheVariants.{Short, Setting, Pair, Body}
 use Rattle.setting.specs.declared.Settings.{Settings}
 use Rattle.bank.specs.Check.{found_in}
 use Rattle.position.specs.declared.Position.{Position}
@@ -26,16 +28,22 @@ use Rattle.position.specs.declared.Here.{Here}
 use Rattle.position.specs.Program.{said_at}
 use Rattle.plain.specs.declared.Run.{Run}
 use Rattle.plain.specs.declared.Event.{Event}
-use Rattle.plain.specs.declared.Asked.{Asked}
 use Rattle.plain.specs.Setup.{Setup, settings_in, here_in}
 use Rattle.plain.specs.Event.{State, After as Made, event_outcome, make_outcome}
 use Rattle.decimal.specs.Text.{text, behind, line_of, Put, put_text, put_of}
 use Rattle.decimal.proofs.Laws.{length-text, put-fits}
+use Rattle.answer.specs.Numbers.{number_and_values}
 use Rattle.key.specs.Line.{asked_by}
 use Rattle.line.specs.declared.Ran.{Ran}
 use Rattle.line.specs.Sheet.{credit_lines}
-use Rattle.line.specs.Part.{Sheet, ended, byte_of, part_of, After, after, found, leaving, refusal_in, start_of, took_line, took_byte}
+use Rattle.line.specs.Part.{Sheet, ended, byte_of, part_of, After, after, found, leaving, refusal_in, start_of, Begun, took_line, took_byte}
 use Rattle.line.specs.Text.{eight, Answered, said, showing, asked_for, answered_to}
+use Rattle.std.specs.Prelude.{Option, None, Some, Err}
+
+-- what is made of either of two things, by a test, is that of the one that the test takes
+pub both-ways : {X Y : Type 0} (f : X → Y) (t : Bool) {a b : X} {x y : Y} → x ≡ f a → y ≡ f b → cond t x y ≡ f (cond t a b)
+both-ways f true g h = g
+both-ways f false g h = h
 
 -- ---- text
 
@@ -69,13 +77,17 @@ first-ones (x ∷ y ∷ z ∷ []) h = refl
 first-ones (x ∷ y ∷ z ∷ v ∷ xs) h = absurd (omega arith)
 
 -- a refusal has at most three numbers
-pub length-refusal : (found : Checked) → length (bank_numbers found) ≤ 3
+pub length-refusal : (refused : BankRefusal) → length (bank_numbers (Err refused)) ≤ 3
 unfolding bank_numbers
-length-refusal Accepted = omega arith
 length-refusal Short = omega arith
 length-refusal (Setting offset) = omega arith
 length-refusal (Pair pair) = omega arith
 length-refusal (Body p k) = omega arith
+
+-- as many as its struct counts
+pub few : (refused : BankRefusal) → (number_and_values (bank_numbers (Err refused))).count ≤ 3
+unfolding number_and_values
+few refused = length-refusal refused
 
 -- a line's answer is eight numbers
 pub length-answered : (setup : Setup) (store : List ℕ) (state : State) (line : List ℕ) → length (answered_to setup store state line).printed ≤ 168
@@ -85,19 +97,16 @@ length-answered setup store state line = go (asked_by line)
     fit : (number : ℤ) (run : Run) → length (line_of (eight setup number run)) ≤ 168
     fit number run = length-line (eight setup number run)
 
-    go : (asked : Asked) → length (asked_for setup store state asked).printed ≤ 168
-    go Asked.NoForm = fit (pos 99) state.run
-    go (Asked.Of event) = let left = event_outcome setup store state event in fit (get_or left.numbers 0 (pos 0)) left.state.run
+    go : (asked : Option Event) → length (asked_for setup store state asked).printed ≤ 168
+    go None = fit (pos 99) state.run
+    go (Some event) = let left = event_outcome setup store state event in fit (get_or left.numbers 0 (pos 0)) left.state.run
 
 -- ---- credits
 
 -- a line of credit is two numbers
 length-credit : (k credit : ℕ) → length (cond (eqb credit 0) [] (line_of (pos k ∷ pos credit ∷ []))) ≤ 42
-length-credit k credit = go (eqb credit 0)
-  where
-    go : (t : Bool) → length (cond t [] (line_of (pos k ∷ pos credit ∷ []))) ≤ 42
-    go true = omega arith
-    go false = length-line (pos k ∷ pos credit ∷ [])
+length-credit k credit =
+    cond_both (eqb credit 0) [] (line_of (pos k ∷ pos credit ∷ [])) (λ text. length text ≤ 42) (λ h. omega arith) (λ h. length-line (pos k ∷ pos credit ∷ []))
 
 pub length-credits : (k : ℕ) (credits : List ℕ) → length (credit_lines k credits) ≤ 42 * length credits
 unfolding credit_lines
@@ -111,20 +120,16 @@ length-credits k (credit ∷ credits) =
 -- a line that asks for an event: what the event leaves, with the number of its answer
 pub event-answered : (setup : Setup) (store : List ℕ) (state : State) (event : Event) (left : Made) {number : ℤ}
     → left ≡ event_outcome setup store state event → number ≡ get_or left.numbers 0 (pos 0)
-    → said setup left.state left.store number ≡ asked_for setup store state (Asked.Of event)
+    → said setup left.state left.store number ≡ asked_for setup store state (Some event)
 unfolding asked_for showing
 event-answered setup store state event left h g = ap (said setup left.state left.store) g ∙ ap (showing setup) h
 
 -- what is kept of a line that has room for 16 bytes
 pub kept_line : (kept : ℕ) (line : List ℕ) {m : ℕ} → length line ≡ 16 → m ≡ min kept 16 → take m line ≡ take kept line
-kept_line kept line {m} l g = go (leb kept 16) refl
-  where
-    go : (t : Bool) → leb kept 16 ≡ t → take m line ≡ take kept line
-    go true h = let few = leb-true kept 16 h in let same : m ≡ kept = omega arith in ap (λ (x : ℕ). take x line) same
-    go false h = let many = leb-false kept 16 h in take_all m line (omega arith) ∙ sym (take_all kept line (omega arith))
+kept_line kept line l g = ap (λ (x : ℕ). take x line) (g ∙ ap (min kept) (sym l)) ∙ take_min kept line
 
 -- a line that was answered: its text stands where it is due, and no line has begun
-pub line_taken : (setup : Setup) (sheet : Sheet) (out : List ℕ) (at : ℕ) (answer : Answered) {asked : Asked} {left : Put}
+pub line_taken : (setup : Setup) (sheet : Sheet) (out : List ℕ) (at : ℕ) (answer : Answered) {asked : Option Event} {left : Put}
     → answer ≡ asked_for setup sheet.store sheet.state asked → asked ≡ asked_by sheet.line → left ≡ put_text out at answer.printed
     → ◌≡◌ {A = After} (record { state = answer.state; store = answer.store; line = []; out = left.bytes; end = left.end }) (took_line setup sheet out at)
 unfolding took_line answered_to
@@ -160,14 +165,9 @@ module _ (setup : Setup) (ran : Ran) (store out : List ℕ) (sheet : Sheet) (out
 
   pub byte-leaves : (c : ℕ) {left : After} → left ≡ took_byte setup (found ran.between store) out ran.end c → left ≡ leaving (byte_of setup sheet c) out₀
   unfolding took_byte byte_of
-  byte-leaves c {left} f = go (eqb c 10) refl
-    where
-      kept : After → After
-      kept x = record { state = x.state; store = x.store; line = take 16 (x.line ++ (c ∷ [])); out = x.out; end = x.end }
-
-      go : (t : Bool) → eqb c 10 ≡ t → left ≡ leaving (byte_of setup sheet c) out₀
-      go true h = rw h (line-leaves (rw h at f))
-      go false h = rw h (rw h at f ∙ ap kept same)
+  byte-leaves c f =
+      let kept : After → After = λ x. record { state = x.state; store = x.store; line = take 16 (x.line ++ (c ∷ [])); out = x.out; end = x.end } in
+      f ∙ both-ways (λ (x : Sheet). leaving x out₀) (eqb c 10) (line-leaves refl) (ap kept same)
 
 -- ---- a part, byte by byte
 
@@ -191,16 +191,12 @@ module _ (setup : Setup) where
 
   pub length-byte : (sheet : Sheet) (c : ℕ) → length (byte_of setup sheet c).text ≤ length sheet.text + 168
   unfolding byte_of
-  length-byte sheet c = go (eqb c 10) refl
-    where
-      go : (t : Bool) → eqb c 10 ≡ t → length (byte_of setup sheet c).text ≤ length sheet.text + 168
-      go true h = rw h (length-ended sheet)
-      go false h = rw h (omega arith)
+  length-byte sheet c = cond_both (eqb c 10) (ended setup sheet) _ (λ x. length x.text ≤ length sheet.text + 168) (λ h. length-ended sheet) (λ h. omega arith)
 
 -- ---- the beginning
 
 -- a controller that was made, with a text at the front of the buffer
-pub begins : (setup : Setup) (store out : List ℕ) (made : Made) (text : List ℕ) {left : Put} → made ≡ make_outcome setup store
+begins : (setup : Setup) (store out : List ℕ) (made : Made) (text : List ℕ) {left : Put} → made ≡ make_outcome setup store
     → text ≡ unless (found_in setup.bank) (refusal_in out) [] → left ≡ put_text out 0 text
     → ◌≡◌ {A = After} (record { state = made.state; store = made.store; line = []; out = left.bytes; end = left.end }) (start_of setup store out)
 unfolding start_of
@@ -208,3 +204,14 @@ begins setup store out made text {left} h g f =
     let end = ap (λ (x : Put). x.end) f ∙ zero-add (length text) in
     (λ i. record { state = made.state; store = made.store; line = []; out = (f i).bytes; end = end i })
     ∙ (λ i. record { state = (h i).state; store = (h i).store; line = []; out = sets out 0 (g i); end = length (g i) })
+
+-- what the check of the bank finds decides the text, which stands at the front of the buffer, and whether the bank is accepted
+pub begun : (setup : Setup) (store out : List ℕ) (made : Made) (checked : Checked) {result : Checked} {left : Put} → made ≡ make_outcome setup store
+    → bank_numbers result ≡ bank_numbers (found_in setup.bank) → result ≡ checked → left ≡ put_text out 0 (unless checked (refusal_in out) [])
+    → Begun setup store out (record { state = made.state; store = made.store; line = []; out = left.bytes; end = left.end }) (is_accepted checked)
+begun setup store out made checked {result} h tells is f =
+    let same : found_in setup.bank ≡ checked = sym (numbers-tell result (found_in setup.bank) tells) ∙ is in
+    record {
+      is = begins setup store out made (unless checked (refusal_in out) []) h (ap (λ (x : Checked). unless x (refusal_in out) []) (sym same)) f;
+      found = ap is_accepted (sym same);
+    }

@@ -1,7 +1,7 @@
 -- The one equation over all input: however an input is cut into parts, the calls print what the programs print for the whole, and leave its state.
 -- Assumes nothing.
 use Prim.Native.Nat.{ℕ, zero, suc, ◌+◌, ◌*◌, ◌≤◌}
-use mathlib.Core.Bool.{Bool, true, false, cond}
+use mathlib.Core.Bool.{Bool, true, false}
 use mathlib.Core.List.{List, [], ◌∷◌, ◌++◌, append_assoc, append-nil, flatten, map}
 use mathlib.Core.Path.{◌≡◌, refl, sym, ap, ◌∙◌}
 use native.Mathlib.Nat.{zero-add}
@@ -11,8 +11,10 @@ use lib.Dec.{eqb}
 use lib.IntN.{pos}
 use lib.ListN.{length, take, drop, replicate, length-map}
 use lib.Seq.{sets, sets-eq, take-append_seam}
+use Rattle.std.proofs.lemmas.Bool.{cond_both}
 use Rattle.field.specs.Row.{total}
-use Rattle.setting.specs.Found.{numbers_of as bank_numbers, is_accepted, unless}
+use Rattle.std.specs.Prelude.{Ok, Err}
+use Rattle.setting.specs.Found.{Checked, numbers_of as bank_numbers, unless}
 use Rattle.bank.specs.Check.{found_in}
 use Rattle.plain.specs.Record.{credit_widths, widths_of}
 use Rattle.plain.specs.Setup.{Setup}
@@ -22,8 +24,8 @@ use Rattle.key.proofs.Long.{long-lines}
 use Rattle.line.specs.declared.Ran.{Ran}
 use Rattle.line.specs.Text.{refusal, Answered, answered_to}
 use Rattle.line.specs.Sheet.{last_line, lines_from, next_line, answers_to, made, all_of, sheet_text, credit_lines, credits_text}
-use Rattle.line.specs.Part.{Sheet, ended, byte_of, part_of, end_of, no_text, printed, left_by, begun, After, after, found, run_of, finish_of, start_of, credits_of}
-use Rattle.line.proofs.Laws.{length-line, length-refusal, length-credits, part-append, length-ended, length-byte}
+use Rattle.line.specs.Part.{Sheet, ended, byte_of, part_of, end_of, no_text, printed, left_by, begun, After, after, found, run_of, finish_of, refusal_in, start_of, credits_of}
+use Rattle.line.proofs.Laws.{both-ways, length-line, length-refusal, length-credits, part-append, length-ended, length-byte}
 
 -- ---- what a call prints is the front of the buffer that it leaves
 
@@ -39,11 +41,8 @@ module _ (setup : Setup) where
 
   length-end : (sheet : Sheet) → length (end_of setup sheet).text ≤ length sheet.text + 168
   unfolding end_of ended
-  length-end sheet = go (eqb (length sheet.line) 0) refl
-    where
-      go : (t : Bool) → eqb (length sheet.line) 0 ≡ t → length (end_of setup sheet).text ≤ length sheet.text + 168
-      go true h = rw h (omega arith)
-      go false h = rw h (length-ended setup sheet)
+  length-end sheet =
+      cond_both (eqb (length sheet.line) 0) sheet (ended setup sheet) (λ x. length x.text ≤ length sheet.text + 168) (λ h. omega arith) (λ h. length-ended setup sheet)
 
   -- for a part, and for the end
   pub run-prints : (sheet : Sheet) (cs out : List ℕ) → 168 * length cs ≤ length out
@@ -62,14 +61,14 @@ module _ (setup : Setup) where
   pub start-prints : (store out : List ℕ) → 168 ≤ length out
       → let left = start_of setup store out in take left.end left.out ≡ unless (found_in setup.bank) refusal []
   unfolding start_of refusal
-  start-prints store out h = rw (le-leb 168 (length out) h) (go (is_accepted (found_in setup.bank)))
+  start-prints store out h = go (found_in setup.bank)
     where
-      go : (t : Bool) → let text = cond t [] (refusal (found_in setup.bank)) in take (length text) (sets out 0 text) ≡ text
-      go true = refl
-      go false =
-          let numbers = bank_numbers (found_in setup.bank) in
-          stands (line_of (map pos numbers)) out
-          (omega (arith, length-line (map pos numbers), length-map numbers pos, length-refusal (found_in setup.bank)))
+      go : (found : Checked) → let text = unless found (refusal_in out) [] in take (length text) (sets out 0 text) ≡ unless found refusal []
+      go (Ok done) = refl
+      go (Err refused) =
+          let numbers = bank_numbers (Err refused) in
+          rw (le-leb 168 (length out) h) (stands (line_of (map pos numbers)) out
+          (omega (arith, length-line (map pos numbers), length-map numbers pos, length-refusal refused)))
 
 -- for the credits of 99 steps
 pub credits-prints : (credits out : List ℕ) → length credits ≡ 99 → 4158 ≤ length out
@@ -97,11 +96,7 @@ module _ (setup : Setup) where
 
   byte-behind : (text : List ℕ) (sheet : Sheet) (c : ℕ) → byte_of setup (behind text sheet) c ≡ behind text (byte_of setup sheet c)
   unfolding byte_of
-  byte-behind text sheet c = go (eqb c 10) refl
-    where
-      go : (t : Bool) → eqb c 10 ≡ t → byte_of setup (behind text sheet) c ≡ behind text (byte_of setup sheet c)
-      go true h = rw h (line-behind text sheet)
-      go false h = rw h
+  byte-behind text sheet c = both-ways (behind text) (eqb c 10) (line-behind text sheet) refl
 
   part-behind : (text : List ℕ) (sheet : Sheet) (cs : List ℕ) → part_of setup (behind text sheet) cs ≡ behind text (part_of setup sheet cs)
   unfolding part_of
@@ -111,11 +106,7 @@ module _ (setup : Setup) where
 
   end-behind : (text : List ℕ) (sheet : Sheet) → end_of setup (behind text sheet) ≡ behind text (end_of setup sheet)
   unfolding end_of
-  end-behind text sheet = go (eqb (length sheet.line) 0) refl
-    where
-      go : (t : Bool) → eqb (length sheet.line) 0 ≡ t → end_of setup (behind text sheet) ≡ behind text (end_of setup sheet)
-      go true h = rw h
-      go false h = rw h (line-behind text sheet)
+  end-behind text sheet = both-ways (behind text) (eqb (length sheet.line) 0) refl (line-behind text sheet)
 
   -- so a part, and the end, of a sheet with text are those of the sheet without it, behind the text
   part-text : (sheet : Sheet) (cs : List ℕ) → part_of setup sheet cs ≡ behind sheet.text (part_of setup (no_text sheet) cs)

@@ -1,9 +1,9 @@
 -- An input that comes in parts, and what a call leaves for each: what the functions of `line` and `credit_lines` promise.
 -- Assumes nothing.
-use Rattle.std.specs.Prelude.{ℕ, ◌+◌, ◌*◌, ◌≡◌, Bool, cond, List, [], ◌∷◌, ◌++◌, eqb, leb, length, take}
+use Rattle.std.specs.Prelude.{ℕ, ◌+◌, ◌*◌, ◌≡◌, Bool, cond, List, [], ◌∷◌, ◌++◌, eqb, leb, length, take, Result, Ok, Err}
 use Rattle.std.proofs.lemmas.List.Edits.{sets}
 use Rattle.setting.specs.Found.{is_accepted, unless}
-use Rattle.setting.specs.declared.Checked.{Checked}
+use Rattle.setting.specs.declared.BankRefusal.{BankRefusal}
 use Rattle.bank.specs.Check.{found_in}
 use Rattle.plain.specs.Setup.{Setup}
 use Rattle.plain.specs.Event.{State, make_outcome}
@@ -77,6 +77,11 @@ after ran store out =
     let between = ran.between in
     record { state = state_of between.state; store = store; line = take between.kept between.line; out = out; end = ran.end }
 
+-- what the beginning leaves, of an accepted bank or of a refused one
+abbrev pub left_by_start : Result Ran Ran → Ran
+left_by_start (Ok ran) = ran
+left_by_start (Err ran) = ran
+
 -- a sheet as a call finds it, with no text yet
 abbrev pub found : Between → List ℕ → Sheet
 found between store = record { state = state_of between.state; store = store; line = take between.kept between.line; text = [] }
@@ -95,8 +100,8 @@ unfoldable pub finish_of : Setup → Sheet → List ℕ → After
 finish_of setup sheet out = cond (leb 168 (length out)) (leaving (end_of setup sheet) out) (leaving sheet out)
 
 -- the text of a refusal, in a buffer of 168 bytes or more
-abbrev pub refusal_in : List ℕ → Checked → List ℕ
-refusal_in out found = cond (leb 168 (length out)) (refusal found) []
+abbrev pub refusal_in : List ℕ → BankRefusal → List ℕ
+refusal_in out refused = cond (leb 168 (length out)) (refusal refused) []
 
 -- the beginning: a controller is made, and nothing is printed; of a refused bank the refusal's numbers
 unfoldable pub start_of : Setup → List ℕ → List ℕ → After

@@ -5,7 +5,8 @@ ghost use Rattle.line.specs.Beside.{sheet_config};
 use alarm::{AlarmSetting, AlarmSettings};
 use plain::Config;
 
-// Four alarms of kind 0.
+// Four alarms of kind 0, written out: a Default would put code into `alarm` and `plain`, which have none.
+#[tactic(auto, unfolding(crate::specs::Beside::sheet_config))]
 pub fn sheet_config() -> Config
     ensures { result ≡ sheet_config }
 {

@@ -1,5 +1,5 @@
 // One line, and one byte of the input.
-ghost use Rattle.std.specs.Prelude.{◌≡◌, ◌+◌, ◌≤◌, min, pos, length};
+ghost use Rattle.std.specs.Prelude.{◌≡◌, ◌+◌, ◌≤◌, pos, length};
 ghost use Rattle.plain.specs.Event.{event_outcome};
 ghost use Rattle.controller.specs.Holds.{state_of, after as left};
 ghost use Rattle.line.specs.Beside.{sheet_over};
@@ -11,7 +11,7 @@ use crate::text::put_eight;
 use crate::{Between, Ran};
 use controller::{Outcome, State};
 use key::parse;
-use plain::{Asked, Event};
+use plain::Event;
 
 // An event of a line, by the controller's own methods.
 fn event(bank: &[u8], store: &mut [u8], state: State, event: Event) -> Outcome
@@ -26,7 +26,7 @@ fn event(bank: &[u8], store: &mut [u8], state: State, event: Event) -> Outcome
     }
 }
 
-// What a line leaves beside the record: the state, and the number of its answer.
+// What a line leaves beside the record: the state, and the number of its answer, which is printed.
 #[derive(Clone, Copy)]
 struct Said {
     state: State,
@@ -34,27 +34,19 @@ struct Said {
 }
 
 // What a line asks for is done; a line of any other form has the number 99.
-fn respond(bank: &[u8], store: &mut [u8], state: State, asked: Asked) -> Said
+#[tactic(auto, unfolding(crate::specs::Text::asked_for))]
+fn respond(bank: &[u8], store: &mut [u8], state: State, asked: Option<Event>) -> Said
     ensures { said (sheet_over bank.now) (state_of result.state) store.new (pos result.number)
         ≡ asked_for (sheet_over bank.now) store.old (state_of state) asked }
 {
-    let Asked::Of(wanted) = asked else {
+    let Some(wanted) = asked else {
         return Said { state, number: 99 };
     };
     let outcome = event(bank, store, state, wanted);
-    let next = outcome.state;
-    let answer = outcome.answer;
     Said {
-        state: next,
-        number: answer::number(answer),
+        state: outcome.state,
+        number: answer::number(outcome.answer),
     }
-}
-
-// The smaller of two numbers.
-fn least(x: usize, y: usize) -> usize
-    ensures { result ≡ min x y }
-{
-    if x < y { x } else { y }
 }
 
 // The line so far is run, and its text stands at a place of the buffer. No line has begun then.
@@ -62,24 +54,21 @@ pub fn take_line(bank: &[u8], store: &mut [u8], ran: Ran, out: &mut [u8]) -> Ran
     requires { ran.end + 168 ≤ length out.old }
     ensures { after result store.new out.new ≡ took_line (sheet_over bank.now) (found ran.between store.old) out.old ran.end }
 {
-    let between = ran.between;
-    let state = between.state;
-    let line = between.line;
-    let kept = least(between.kept, 16);
-    let said = respond(bank, store, state, parse(&line[..kept]));
-    let next = said.state;
-    let run = next.run;
+    let Between { state, line, kept } = ran.between;
+    let asked = parse(&line[..kept.min(16)]);
+    let said = respond(bank, store, state, asked);
     Ran {
         between: Between {
-            state: next,
+            state: said.state,
             line,
             kept: 0,
         },
-        end: put_eight(bank, said.number, run, out, ran.end),
+        end: put_eight(bank, said.number, said.state.run, out, ran.end),
     }
 }
 
 // A byte of the input is taken: the newline ends a line; of any other line the first 16 bytes are kept.
+#[tactic(auto, using(crate::proofs::Laws::kept_more, crate::proofs::Laws::kept_full), unfolding(crate::specs::Part::took_byte))]
 pub fn take(bank: &[u8], store: &mut [u8], ran: Ran, c: u8, out: &mut [u8]) -> Ran
     requires { ran.end + 168 ≤ length out.old }
     ensures { after result store.new out.new ≡ took_byte (sheet_over bank.now) (found ran.between store.old) out.old ran.end c }
@@ -93,8 +82,5 @@ pub fn take(bank: &[u8], store: &mut [u8], ran: Ran, c: u8, out: &mut [u8]) -> R
         between.line[kept] = c;
         between.kept = kept + 1;
     }
-    Ran {
-        between,
-        end: ran.end,
-    }
+    Ran { between, ..ran }
 }

@@ -7,7 +7,7 @@ ghost use Rattle.line.specs.Part.{refusal_in};
 
 use decimal::put_line;
 use plain::Run;
-use setting::Checked;
+use setting::BankRefusal;
 
 // Answer, mode, p, k, r, e, w, set value, at a place of a buffer that has room for them. Gives the place where they end.
 pub fn put_eight(bank: &[u8], number: u8, run: Run, out: &mut [u8], at: usize) -> usize
@@ -37,18 +37,18 @@ pub fn put_eight(bank: &[u8], number: u8, run: Run, out: &mut [u8], at: usize) -
 }
 
 // The numbers of a bank's refusal, at the front of a buffer that has room for eight; in any other nothing. Gives the place where they end.
-pub fn put_refusal(found: Checked, out: &mut [u8]) -> usize
-    ensures { put out.new result ≡ put_text out.old 0 (refusal_in out.old found) }
+#[tactic(auto, using(crate::proofs::Laws::few))]
+pub fn put_refusal(refusal: BankRefusal, out: &mut [u8]) -> usize
+    ensures { put out.new result ≡ put_text out.old 0 (refusal_in out.old refusal) }
 {
     if out.len() < 168 {
         return 0;
     }
-    let refusal = answer::of_checked(found);
-    let numbers = [
-        refusal.number as i64,
-        refusal.first as i64,
-        refusal.second as i64,
+    let numbers = answer::of_bank(refusal);
+    let row = [
+        numbers.number as i64,
+        numbers.first as i64,
+        numbers.second as i64,
     ];
-    let count = refusal.count;
-    put_line(out, 0, &numbers[..count])
+    put_line(out, 0, &row[..numbers.count])
 }

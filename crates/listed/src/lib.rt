@@ -7,36 +7,39 @@ ghost use Rattle.plain.specs.Listed.{event_of_kind, asked_at, formed};
 use field::byte;
 use integer::signed_long;
 use measure::Reading;
-use plain::{Asked, Event};
+use plain::Event;
 use position::Command;
 
-// What a kind with a value asks for.
+// The last of the known kinds.
+const LAST: u8 = 14;
+
+// What a kind with a value asks for; the kinds are numbers in the C interface and in a list.
 #[tactic(auto, unfolding(plain::specs::Listed::event_of_kind))]
-pub fn event_of(kind: u32, v: i32) -> Asked
+pub fn event_of(kind: u32, v: i32) -> Option<Event>
     ensures { result ≡ event_of_kind kind v }
 {
     match kind {
-        0 => Asked::Of(Event::Tick(Reading::Value(v))),
-        1 => Asked::Of(Event::Tick(Reading::Over)),
-        2 => Asked::Of(Event::Tick(Reading::Under)),
-        3 => Asked::Of(Event::Press(Command::Select(v))),
-        4 => Asked::Of(Event::Press(Command::Start)),
-        5 => Asked::Of(Event::Press(Command::Pause)),
-        6 => Asked::Of(Event::Press(Command::Reset)),
-        7 => Asked::Of(Event::Press(Command::Feed)),
-        8 => Asked::Of(Event::Press(Command::Back)),
-        9 => Asked::Of(Event::Press(Command::Plus)),
-        10 => Asked::Of(Event::Press(Command::Minus)),
-        11 => Asked::Of(Event::Cut),
-        12 => Asked::Of(Event::Return(Reading::Value(v))),
-        13 => Asked::Of(Event::Return(Reading::Over)),
-        14 => Asked::Of(Event::Return(Reading::Under)),
-        _ => Asked::NoForm,
+        0 => Some(Event::Tick(Reading::Value(v))),
+        1 => Some(Event::Tick(Reading::Over)),
+        2 => Some(Event::Tick(Reading::Under)),
+        3 => Some(Event::Press(Command::Select(v))),
+        4 => Some(Event::Press(Command::Start)),
+        5 => Some(Event::Press(Command::Pause)),
+        6 => Some(Event::Press(Command::Reset)),
+        7 => Some(Event::Press(Command::Feed)),
+        8 => Some(Event::Press(Command::Back)),
+        9 => Some(Event::Press(Command::Plus)),
+        10 => Some(Event::Press(Command::Minus)),
+        11 => Some(Event::Cut),
+        12 => Some(Event::Return(Reading::Value(v))),
+        13 => Some(Event::Return(Reading::Over)),
+        14 => Some(Event::Return(Reading::Under)),
+        _ => None,
     }
 }
 
 // What the five bytes at an offset ask for. Bytes past the end read as 0.
-pub fn asked_at(bytes: &[u8], at: usize) -> Asked
+pub fn asked_at(bytes: &[u8], at: usize) -> Option<Event>
     ensures { result ≡ asked_at bytes.now at }
 {
     if bytes.len() <= at {
@@ -53,12 +56,10 @@ pub fn is_list(bytes: &[u8]) -> bool
     if bytes.len() % 5 != 0 {
         return false;
     }
-    let mut at: usize = 0;
-    while at < bytes.len() {
-        if 14 < byte(bytes, at) {
+    for at in (0..bytes.len()).step_by(5) {
+        if LAST < byte(bytes, at) {
             return false;
         }
-        at += 5;
     }
     true
 }

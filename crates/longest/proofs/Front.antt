@@ -17,16 +17,18 @@ use Rattle.limits.specs.Range.{both}
 use Rattle.capacity.specs.Capacity.{capacity_of}
 use Rattle.setting.specs.Setting.{settings_at}
 use Rattle.bank.specs.View.{offset_of, length_of, steps_in}
-use Rattle.setting.specs.Found.{is_accepted, test, then}
+use Rattle.setting.specs.Found.{test, then}
 use Rattle.setting.specs.Setting.{settings_found, settings_in}
 use Rattle.bank.specs.Check.{pair_right, pairs_from, pairs_found, found_in}
 use Rattle.setting.specs.declared.Settings.{Settings}
-use Rattle.setting.specs.declared.Checked.{Checked}
-use Rattle.setting.specs.declared.Checked.TheVariants.{Accepted, Short, Pair}
-use Rattle.setting.proofs.Laws.{off, right, wrong, is-accepted, unless-refused, first-is, settings-count}
+use Rattle.setting.specs.declared.BankRefusal.TheVariants.{Short, Pair}
+use Rattle.setting.proofs.Laws.{off, right, wrong, first-is, settings-count}
 use Rattle.bank.proofs.Facts.{test-holds, not-pair, pair-holds}
 use Rattle.setting.proofs.Padded.{settings-padded}
 use Rattle.longest.proofs.Longest.{ends, bound}
+use Rattle.std.specs.Prelude.{Ok, Err}
+use Rattle.setting.specs.Found.{Checked}
+use Rattle.setting.specs.Found.{Accepted}
 
 -- where a body of any right length fits, the size of the bank does not matter
 right-same : (offset len due cap size size' : ℕ) → due + (2 + 9 * cap) ≤ size → due + (2 + 9 * cap) ≤ size' → pair_right offset len due cap size ≡ pair_right offset len due cap size'
@@ -60,7 +62,7 @@ module _ (a bank : List ℕ) (same : (j : ℕ) → j < 4096 → get_or a j 0 ≡
       let offset = field_is 2 (41 + 4 * i) (omega arith) in
       let len = field_is 2 (43 + 4 * i) (omega arith) in
       let l = suc-mul m (2 + 9 * cap) in
-      test-same _ _ (Pair i) _ _
+      test-same _ _ (Err (Pair i)) _ _
       ((λ j. pair_right (offset j) (len j) due cap (length a)) ∙ right-same (offset_of bank i) (length_of bank i) due cap (length a) (length bank) (omega arith) (omega arith))
       (λ right. let f = pair-holds bank n i due right in
       ap (λ (x : ℕ). pairs_from a n m (i + 1) (due + x)) len ∙ pairs-from n m (i + 1) (due + length_of bank i) (omega arith) (omega (arith, f.size, f.steps)))
@@ -68,30 +70,24 @@ module _ (a bank : List ℕ) (same : (j : ℕ) → j < 4096 → get_or a j 0 ≡
   pairs-same : (n : ℕ) → n ≤ 15 → pairs_found a n ≡ pairs_found bank n
   unfolding pairs_found
   pairs-same n h =
-      right (Pair 0) (le-leb (45 + 4 * n) (length a) (omega arith))
+      right (Err (Pair 0)) (le-leb (45 + 4 * n) (length a) (omega arith))
       ∙ pairs-from n n 1 (45 + 4 * n) (omega arith) (omega (arith, bound n h))
-      ∙ sym (right (Pair 0) (le-leb (45 + 4 * n) (length bank) (omega arith)))
+      ∙ sym (right (Err (Pair 0)) (le-leb (45 + 4 * n) (length bank) (omega arith)))
 
 too_long : (bank : List ℕ) (n : ℕ) → n ≤ 15 → 4096 ≤ length bank → pairs_found bank n ≡ Accepted → ⊥
 unfolding pairs_found
 too_long bank n h l told = omega (arith, ends bank n n 1 (45 + 4 * n) (test-holds _ _ _ (not-pair 0) told).1, bound n h)
 
--- the pairs of so long a bank are wrong
-pairs-wrong : (bank : List ℕ) (n : ℕ) → n ≤ 15 → 4096 ≤ length bank → is_accepted (pairs_found bank n) ≡ false
-pairs-wrong bank n h l = go (is_accepted (pairs_found bank n)) refl
-  where
-    go : (t : Bool) → is_accepted (pairs_found bank n) ≡ t → t ≡ false
-    go false told = refl
-    go true told = absurd (too_long bank n h l (is-accepted (pairs_found bank n) told))
-
 -- what is found next matters only where nothing was found before
 then_same : (found x y : Checked) → (found ≡ Accepted → x ≡ y) → then found x ≡ then found y
 unfolding then
-then_same found x y f = go (is_accepted found) refl
-  where
-    go : (t : Bool) → is_accepted found ≡ t → then found x ≡ then found y
-    go true told = ap (then found) (f (is-accepted found told))
-    go false told = unless-refused {found = found} (λ g. g) x told ∙ sym (unless-refused {found = found} (λ g. g) y told)
+then_same (Ok done) x y f = f refl
+then_same (Err refusal) x y f = refl
+
+then_refused : (found rest : Checked) → (found ≡ Accepted → ⊥) → then found rest ≡ found
+unfolding then
+then_refused (Ok done) rest h = absurd (h refl)
+then_refused (Err refusal) rest h = refl
 
 few : (bank : List ℕ) → settings_found (settings_at bank) ≡ Accepted → (settings_at bank).patterns ≤ 15
 few bank told = (settings-count (settings_at bank) told).1
@@ -100,8 +96,8 @@ few bank told = (settings-count (settings_at bank) told).1
 by_front : (bank : List ℕ) → 4096 ≤ length bank → found_in bank ≡ then (settings_found (settings_at bank)) (pairs_found bank (settings_at bank).patterns)
 unfolding found_in settings_in then
 by_front bank l =
-    first-is _ (right Short (le-leb 45 (length bank) (omega arith)))
-    ∙ then_same (settings_found (settings_at bank)) _ _ (λ told. unless-refused (λ g. g) _ (pairs-wrong bank (settings_at bank).patterns (few bank told) l))
+    first-is _ (right (Err Short) (le-leb 45 (length bank) (omega arith)))
+    ∙ then_same (settings_found (settings_at bank)) _ _ (λ told. then_refused _ _ (too_long bank (settings_at bank).patterns (few bank told) l))
 
 -- two such banks whose fronts are the same
 same-found : (a bank : List ℕ) → ((j : ℕ) → j < 4096 → get_or a j 0 ≡ get_or bank j 0) → 4096 ≤ length a → 4096 ≤ length bank → found_in a ≡ found_in bank

@@ -18,10 +18,10 @@ use Rattle.field.specs.Tab.{tab}
 use Rattle.setting.specs.Found.{test, then}
 use Rattle.setting.specs.Setting.{first_of, head_found, halves_found, settings_found, settings_in}
 use Rattle.bank.specs.Check.{pair_right, pairs_from, pairs_found, signals_right, step_right, steps_found, bodies_found, of_length, found_in}
-use Rattle.setting.specs.declared.Checked.TheVariants.{Accepted}
 use Rattle.setting.proofs.Laws.{next}
 use Rattle.capacity.proofs.Table.{at}
 use Rattle.bank.proofs.Facts.{test-holds, not-pair, pair-holds, parts, count-range}
+use Rattle.setting.specs.Found.{Accepted}
 
 -- m right pairs, the first of whose bodies is due at an offset, end the bank
 pub ends : (bank : List ℕ) (n m i due : ℕ) → pairs_from bank n m i due ≡ Accepted → length bank ≤ due + m * (2 + 9 * capacity_of n)

@@ -1,20 +1,21 @@
--- What making asks, and what it leaves, as the code gives it.
+-- What making is refused for, and what it leaves, as the code gives it.
 -- Assumes nothing.
-use Rattle.std.specs.Prelude.{◌≡◌, true, List, ℕ}
-use Rattle.setting.specs.declared.Checked.{Checked}
+use Rattle.std.specs.Prelude.{List, ℕ, Result, Ok, Err}
+use Rattle.setting.specs.Found.{unless}
 use Rattle.bank.specs.Check.{found_in}
-use Rattle.alarm.specs.Alarm.{all_in_range}
-use Rattle.plain.specs.declared.Config.{Config}
-use Rattle.plain.specs.declared.Answer.{Answer}
-use Rattle.plain.specs.Record.{sized}
-use Rattle.plain.specs.Setup.{over}
-use Rattle.plain.specs.Event.{State, After, after, dark, make_outcome}
+use Rattle.plain.specs.declared.AnyRefusal.{AnyRefusal}
+use Rattle.plain.specs.Answer.{Answer}
+use Rattle.plain.specs.Setup.{Setup}
+use Rattle.plain.specs.Run.{shown_in}
+use Rattle.plain.specs.Refusals.{judged, call_rows}
+use Rattle.plain.specs.Event.{State, After, after, fresh, dark, record_for, retained_in}
 use Rattle.making.specs.declared.Ran.{Ran}
 
--- an accepted bank, and a record of its size
-pub record Begins (bank store : List ℕ) : Type 0 where
-  pub ok : found_in bank ≡ Checked.Accepted
-  pub whole : sized store ≡ true
+-- 11 to 14, then 22 and 41, or none of these
+unfoldable pub allowed_by : Setup → List ℕ → Result (Unit {0}) AnyRefusal
+allowed_by setup store =
+    unless (found_in setup.bank) (λ refusal. Err (AnyRefusal.Bank refusal))
+    (judged (call_rows setup (retained_in setup store)) (λ refusal. Err (AnyRefusal.Own refusal)) (Ok tt))
 
 -- what a call leaves: state, record and answer
 abbrev pub ran_state : Ran → State
@@ -23,9 +24,9 @@ ran_state ran = record { power = ran.power; run = ran.run; credits = ran.credits
 abbrev pub after_ran : Ran → List ℕ → After
 after_ran ran store = after (ran_state ran) store ran.answer
 
--- what making leaves, over every setup of a bank whose alarm settings are in range
-abbrev pub IsMade : List ℕ → List ℕ → After → Type 0
-IsMade bank store left = (config : Config) → all_in_range config.alarms ≡ true → left ≡ make_outcome (over bank config) store
+-- what making leaves where nothing is refused
+abbrev pub begun : Setup → After
+begun setup = after fresh (record_for fresh.run fresh.credits) (Ok (shown_in setup fresh.run))
 
 -- the state with power off, and an answer
 abbrev pub dark_ran : Answer → Ran

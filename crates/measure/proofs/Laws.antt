@@ -8,11 +8,11 @@ use Rattle.measure.specs.Filter.{lowest, highest, kept, lagged, after_of, first_
 use Rattle.measure.specs.Bound.{end, Close, CloseTo, Near}
 use Rattle.measure.specs.declared.Measured.{Measured}
 use Rattle.measure.specs.declared.Reading.{Reading}
-use Rattle.measure.specs.declared.Whole.{Whole}
 use Rattle.measure.proofs.Number.{Number, lagged-number}
 use Rattle.measure.proofs.Order as order
 use Rattle.measure.proofs.Range.{InRange, inside, within-true, within-finite, of-within, in-range, not-outside, exact, after-within}
 use Rattle.measure.proofs.Nearest.{half_up-near, half_up-range, nearest-range, rounded-exact}
+use Rattle.std.specs.Prelude.{Option, None, Some}
 
 -- ---- over and under replace the measured value, and a first reading is one with no reading before it
 pub over-replaces : (m : Measured) (f : ℕ) → after_of m Reading.Over f ≡ Measured.Over
@@ -48,13 +48,13 @@ pub kept-clamp : (x : Float) → Number x → kept x ≡ cond (lt x lowest) lowe
 kept-clamp = order.kept-clamp
 
 -- ---- the whole value is the nearest
-whole-close : (sign : Bool) (m : ℕ) (exponent : ℤ) → within (fin sign m exponent) ≡ true → Close sign (m * up exponent) (down exponent) (Whole.Value (nearest (fin sign m exponent)))
+whole-close : (sign : Bool) (m : ℕ) (exponent : ℤ) → within (fin sign m exponent) ≡ true → Close sign (m * up exponent) (down exponent) (Some (nearest (fin sign m exponent)))
 unfolding nearest
 whole-close sign m exponent h =
     let near = half_up-near (m * up exponent) (down exponent) (down_pos exponent) in
     record {
       whole = half_up (m * up exponent) (down exponent);
-      is = ap (λ (t : Bool). Whole.Value (cond t (rounded (fin sign m exponent)) (pos 0))) h;
+      is = ap (λ (t : Bool). Some (cond t (rounded (fin sign m exponent)) (pos 0))) h;
       not-over = near.0;
       not-under = near.1;
       in-range = half_up-range (m * up exponent) (down exponent) (end sign) (down_pos exponent) (inside (fin sign m exponent) h);
@@ -67,16 +67,16 @@ whole-near Measured.Over = refl
 whole-near Measured.Under = refl
 whole-near (Measured.Value y) = close y
   where
-    close : (y : Float) → CloseTo y (Whole.Value (nearest y))
+    close : (y : Float) → CloseTo y (Some (nearest y))
     close nan = tt
     close (inf sign) = tt
     close (fin sign m exponent) = λ h. whole-close sign m exponent h
 
 -- ---- a measured whole value is a temperature
 -- the number of a whole value, 0 where there is none
-abbrev number : Whole → ℤ
-number Whole.Nothing = pos 0
-number (Whole.Value z) = z
+abbrev number : Option ℤ → ℤ
+number None = pos 0
+number (Some z) = z
 
 number-range : (m : Measured) → InRange (number (whole_of m))
 unfolding whole_of
@@ -85,16 +85,16 @@ number-range Measured.Over = lit≤ tt
 number-range Measured.Under = lit≤ tt
 number-range (Measured.Value y) = nearest-range y
 
-pub whole-range : (m : Measured) (z : ℤ) → whole_of m ≡ Whole.Value z → outside_of (Reading.Value z) ≡ false
+pub whole-range : (m : Measured) (z : ℤ) → whole_of m ≡ Some z → outside_of (Reading.Value z) ≡ false
 whole-range m z same = not-outside z (subst InRange (ap number same) (number-range m))
 
 -- ---- the whole value of a first reading in range is that reading
-pub first-whole : (v : ℤ) → outside_of (Reading.Value v) ≡ false → whole_of (first_of (Reading.Value v)) ≡ Whole.Value v
+pub first-whole : (v : ℤ) → outside_of (Reading.Value v) ≡ false → whole_of (first_of (Reading.Value v)) ≡ Some v
 unfolding whole_of first_of nearest
 first-whole v h =
     let known = in-range v h in
-    ap (λ (t : Bool). Whole.Value (cond t (rounded (of_int binary64 v)) (pos 0))) (within-true (of_int binary64 v) (of-within v known))
-    ∙ ap Whole.Value (rounded-exact (of_int binary64 v) v (exact v known))
+    ap (λ (t : Bool). Some (cond t (rounded (of_int binary64 v)) (pos 0))) (within-true (of_int binary64 v) (of-within v known))
+    ∙ ap Some (rounded-exact (of_int binary64 v) v (exact v known))
 
 -- ---- what is measured is a 64-bit float
 

@@ -1,11 +1,10 @@
 -- The measured value of document 01, in the order of its words. A float is one of IEEE 754 as the library has it, with each operation rounded once.
 -- Assumes nothing.
-use Rattle.std.specs.Prelude.{ℕ, ◌+◌, ◌*◌, ◌/◌, Bool, true, false, cond, ◌&&◌, ◌||◌, ℤ, pos, neg_ℤ, ◌==◌, int_lt, Float}
+use Rattle.std.specs.Prelude.{ℕ, ◌+◌, ◌*◌, ◌/◌, Bool, true, false, cond, ◌&&◌, ◌||◌, ℤ, pos, neg_ℤ, ◌==◌, int_lt, Float, Option, None, Some}
 use Rattle.std.specs.Float.{nan, inf, fin, binary64}
 use Rattle.std.specs.Float.Ieee.{add, sub, mul, div, le, of_int, up, down}
 use Rattle.measure.specs.declared.Measured.{Measured}
 use Rattle.measure.specs.declared.Reading.{Reading}
-use Rattle.measure.specs.declared.Whole.{Whole}
 
 -- -19,999, 29,999 and 10
 abbrev pub lowest : Float
@@ -67,11 +66,11 @@ unfoldable pub nearest : Float → ℤ
 nearest y = cond (within y) (rounded y) (pos 0)
 
 -- "the measured whole value", where there is "a filtered value"
-unfoldable pub whole_of : Measured → Whole
-whole_of Measured.NoReading = Whole.Nothing
-whole_of Measured.Over = Whole.Nothing
-whole_of Measured.Under = Whole.Nothing
-whole_of (Measured.Value y) = Whole.Value (nearest y)
+unfoldable pub whole_of : Measured → Option ℤ
+whole_of Measured.NoReading = None
+whole_of Measured.Over = None
+whole_of Measured.Under = None
+whole_of (Measured.Value y) = Some (nearest y)
 
 -- "any y lies within −19,999 and 29,999"
 unfoldable pub sound_of : Measured → Bool

@@ -23,21 +23,14 @@ pub enum Reading {
     Value(i32),
 }
 
-// The measured whole value, where there is a filtered value.
-#[derive(Clone, Copy)]
-pub enum Whole {
-    Nothing,
-    Value(i16),
-}
-
 // Whether refusal 25 meets a reading: its value is outside -19,999 to 29,999.
+#[tactic(auto, unfolding(crate::specs::Filter::outside_of))]
 pub fn outside(reading: Reading) -> bool
     ensures { result ≡ outside_of reading }
 {
     match reading {
-        Reading::Over => false,
-        Reading::Under => false,
-        Reading::Value(v) => v < -19999 || v > 29999,
+        Reading::Over | Reading::Under => false,
+        Reading::Value(v) => !(-19999..=29999).contains(&v),
     }
 }
 
@@ -45,21 +38,19 @@ pub fn outside(reading: Reading) -> bool
 fn inside(y: f64) -> bool
     ensures { result ≡ within y }
 {
-    y >= -19999.0 && y <= 29999.0
+    (-19999.0..=29999.0).contains(&y)
 }
 
 // x, kept within -19,999 and 29,999. The tests are `>=` and `<=`, so that a NaN would be kept in
-// range too: the result is in range whatever x is.
+// range too, which `clamp` would return: the result is in range whatever x is.
 fn keep(x: f64) -> f64
     ensures { result ≡ kept x }
 {
     if x >= -19999.0 {
-        if x <= 29999.0 {
-            return x;
-        }
-        return 29999.0;
+        if x <= 29999.0 { x } else { 29999.0 }
+    } else {
+        -19999.0
     }
-    -19999.0
 }
 
 // The lag: y + ((v - y) * 10) / (10 + f), each operation rounded once in that order.
@@ -71,26 +62,17 @@ fn lag(y: f64, v: f64, f: u16) -> f64
 }
 
 // What a tick's reading makes of the measured value m, with the filter constant F, here f.
+#[tactic(auto, unfolding(crate::specs::Filter::after_of))]
 pub fn after(m: Measured, reading: Reading, f: u16) -> Measured
     ensures { result ≡ after_of m reading f }
 {
-    match reading {
-        Reading::Over => Measured::Over,
-        Reading::Under => Measured::Under,
-        Reading::Value(value) => {
-            let v = value as f64;
-            match m {
-                Measured::NoReading => Measured::Value(v),
-                Measured::Over => Measured::Value(v),
-                Measured::Under => Measured::Value(v),
-                Measured::Value(y) => {
-                    if f == 0 {
-                        return Measured::Value(v);
-                    }
-                    Measured::Value(keep(lag(y, v, f)))
-                }
-            }
+    match (m, reading) {
+        (_, Reading::Over) => Measured::Over,
+        (_, Reading::Under) => Measured::Under,
+        (Measured::Value(y), Reading::Value(v)) if f != 0 => {
+            Measured::Value(keep(lag(y, v as f64, f)))
         }
+        (_, Reading::Value(v)) => Measured::Value(v as f64),
     }
 }
 
@@ -115,38 +97,36 @@ fn half_up(x: f64) -> i16
 fn round(y: f64) -> i16
     ensures { result ≡ nearest y }
 {
-    if inside(y) {
-        if y > 0.0 {
-            return half_up(y);
-        }
-        if y < 0.0 {
-            return -half_up(-y);
-        }
+    if !inside(y) {
+        0
+    } else if y > 0.0 {
+        half_up(y)
+    } else if y < 0.0 {
+        -half_up(-y)
+    } else {
+        0
     }
-    0
 }
 
 // The measured whole value: the whole number nearest to y, where there is one.
-pub fn whole_value(m: Measured) -> Whole
+#[tactic(auto, unfolding(crate::specs::Filter::whole_of))]
+pub fn whole_value(m: Measured) -> Option<i16>
     ensures value { result ≡ whole_of m }
     ensures near { Near m result }
 {
     match m {
-        Measured::NoReading => Whole::Nothing,
-        Measured::Over => Whole::Nothing,
-        Measured::Under => Whole::Nothing,
-        Measured::Value(y) => Whole::Value(round(y)),
+        Measured::NoReading | Measured::Over | Measured::Under => None,
+        Measured::Value(y) => Some(round(y)),
     }
 }
 
 // Whether any y lies within -19,999 and 29,999.
+#[tactic(auto, unfolding(crate::specs::Filter::sound_of))]
 pub fn sound(m: Measured) -> bool
     ensures { result ≡ sound_of m }
 {
     match m {
-        Measured::NoReading => true,
-        Measured::Over => true,
-        Measured::Under => true,
+        Measured::NoReading | Measured::Over | Measured::Under => true,
         Measured::Value(y) => inside(y),
     }
 }

@@ -2,84 +2,55 @@
 // they stand there, before the first that does not. vectors.py says what a line of 57 bytes holds.
 #![tactic(auto)]
 
-use measure::{Measured, Reading, Whole};
+use measure::{Measured, Reading};
 use std::io;
 use std::io::Read;
 
 // The value of a hexadecimal digit: 0 to 9, a to f.
 fn digit(c: u8) -> u64 {
-    if c >= b'a' {
-        return ((c % 16) as u64) + 9;
-    }
-    (c % 16) as u64
+    let low = (c % 16) as u64;
+    if c >= b'a' { low + 9 } else { low }
 }
 
-// The hexadecimal number at the places `from` to `to` of a line, without the last.
-fn hex(line: &[u8; 57], from: usize, to: usize) -> u64 {
-    let mut x = 0;
-    let mut i = from;
-    while i < to {
-        if i >= 57 {
-            return x;
-        }
-        x = (x << 4) | digit(line[i]);
-        i += 1;
-    }
-    x
+// The number of some hexadecimal digits.
+fn hex(digits: &[u8]) -> u64 {
+    digits.iter().fold(0, |x, c| (x << 4) | digit(*c))
 }
 
 // The whole number of a sign and a size of four hexadecimal digits.
 fn signed(sign: u8, size: u64) -> i32 {
     let number = (size % 65536) as i32;
-    if sign == b'-' {
-        return -number;
-    }
-    number
+    if sign == b'-' { -number } else { number }
 }
 
 // The float of a bit pattern; 0 where that is a NaN's.
 fn float(bits: u64) -> f64 {
     if bits % 0x8000_0000_0000_0000 <= 0x7ff0_0000_0000_0000 {
-        return f64::from_bits(bits);
+        f64::from_bits(bits)
+    } else {
+        0.0
     }
-    0.0
 }
 
-// Whether y has the bit pattern `bits`, which is no NaN's.
-fn same(y: f64, bits: u64) -> bool {
-    if y == y {
-        return f64::to_bits(y) == bits;
-    }
-    false
-}
-
-// Whether the filtered value has the bit pattern `bits`.
+// Whether the filtered value has the bit pattern `bits`, which is no NaN's.
 fn holds(m: Measured, bits: u64) -> bool {
-    match m {
-        Measured::NoReading => false,
-        Measured::Over => false,
-        Measured::Under => false,
-        Measured::Value(y) => same(y, bits),
-    }
+    matches!(m, Measured::Value(y) if !y.is_nan() && y.to_bits() == bits)
 }
 
 // Whether the measured whole value is `number`.
 fn shows(m: Measured, number: i32) -> bool {
-    match measure::whole_value(m) {
-        Whole::Nothing => false,
-        Whole::Value(whole) => whole as f64 == number as f64,
-    }
+    measure::whole_value(m).is_some_and(|whole| whole as i32 == number)
 }
 
 // Whether the vector of a line comes out as it stands there.
 fn agrees(line: &[u8; 57]) -> bool {
-    let m = Measured::Value(float(hex(line, 0, 16)));
-    let reading = Reading::Value(signed(line[23], hex(line, 24, 28)));
-    let f = (hex(line, 29, 33) % 65536) as u16;
+    let m = Measured::Value(float(hex(&line[0..16])));
+    let reading = Reading::Value(signed(line[23], hex(&line[24..28])));
+    let f = (hex(&line[29..33]) % 65536) as u16;
     let next = measure::after(m, reading, f);
-    shows(m, signed(line[17], hex(line, 18, 22)))
-        && holds(next, hex(line, 34, 50))
-        && shows(next, signed(line[51], hex(line, 52, 56)))
+    shows(m, signed(line[17], hex(&line[18..22])))
+        && holds(next, hex(&line[34..50]))
+        && shows(next, signed(line[51], hex(&line[52..56])))
         && measure::sound(next)
         && !measure::outside(reading)
 }

@@ -13,7 +13,6 @@ use Rattle.field.specs.Field.{digits}
 use Rattle.field.specs.Row.{row, total}
 use Rattle.measure.specs.Filter.{after_of, first_of, whole_of, outside_of}
 use Rattle.measure.specs.declared.Reading.{Reading}
-use Rattle.measure.specs.declared.Whole.{Whole}
 use Rattle.position.specs.Tests.{both, either, all}
 use Rattle.position.specs.Program.{active, set_value_of, tick_position}
 use Rattle.position.specs.Command.{takes_of, is_start, pause_position, feed_position, command_position}
@@ -27,13 +26,11 @@ use Rattle.alarm.proofs.Ticks.{unfiltered-stays, unjudged-stays}
 use Rattle.plain.specs.declared.Run.{Run}
 use Rattle.plain.specs.declared.Credit.{Credit}
 use Rattle.plain.specs.declared.Event.{Event}
-use Rattle.plain.specs.declared.Asked.{Asked}
 use Rattle.plain.specs.declared.Refusal.{Refusal}
-use Rattle.plain.specs.declared.Answer.{Answer}
 use Rattle.plain.specs.declared.Effect.{Effect}
 use Rattle.plain.specs.Record.{widths_of, numbers_in, Checkpoint, credit_widths, record_size, credits_from, alarms_from, record_of, credits_in, sized}
 use Rattle.plain.specs.Setup.{Setup, Usable, settings_in, here_in, first_in}
-use Rattle.plain.specs.Answer.{number_of}
+use Rattle.plain.specs.Answer.{number_of, Answer}
 use Rattle.plain.specs.Run.{readable_in, sound_by, sound_in, shown_in, cooked, credited, measuring, counting, stepping, tick_by, judging, tick_run, tick_credit}
 use Rattle.plain.specs.Run.{tick_saves, command_run, command_credit, return_by, return_run}
 use Rattle.plain.specs.Refusals.{Row, Retained, sound_state, event_rows}
@@ -41,6 +38,7 @@ use Rattle.plain.specs.Event.{fresh, dark_run, dark, record_for, applied, unchan
 use Rattle.plain.specs.Event.{return_effect, retained_in, known_effect, event_effect, event_outcome, make_outcome}
 use Rattle.plain.specs.Replay.{tick, plain_effect}
 use Rattle.plain.specs.Listed.{event_of_kind}
+use Rattle.std.specs.Prelude.{Option, None, Some, Ok}
 
 -- both fail by the second
 never : (test : Bool) → both test false ≡ false
@@ -82,12 +80,12 @@ module _ (setup : Setup) (run : Run) (reading : Reading) where
   tick-judges = refl
 
   -- so a tick that leaves no filtered value, or a mode other than 1 and 2, leaves flags and counts
-  pub tick-unfiltered : whole_of (tick_run setup reading run).measured ≡ Whole.Nothing → (tick_run setup reading run).alarms ≡ run.alarms
+  pub tick-unfiltered : whole_of (tick_run setup reading run).measured ≡ None → (tick_run setup reading run).alarms ≡ run.alarms
   unfolding judging
   tick-unfiltered none =
       let after = tick_by (settings_in setup) (here_in setup run.position) reading run in
       let set = set_value_of (here_in setup after.position) after.position in
-      tick-judges ∙ ap (λ (whole : Whole). tick_alarms setup.config.alarms after.position.mode whole set run.alarms) none
+      tick-judges ∙ ap (λ (whole : Option ℤ). tick_alarms setup.config.alarms after.position.mode whole set run.alarms) none
       ∙ unfiltered-stays setup.config.alarms set run.alarms after.position.mode
 
   pub tick-unjudged : ((tick_run setup reading run).position.mode ≡ 1 → ⊥) → ((tick_run setup reading run).position.mode ≡ 2 → ⊥)
@@ -168,7 +166,7 @@ alarms-unreadable setup run out =
 
 -- no answer is constant: an accepted one carries the set value and the signals of the run that is left
 pub carries : (setup : Setup) (credit : Credit) (saves : Bool) (run : Run)
-    → (accepted setup credit saves run).answer ≡ Answer.Accepted (shown_in setup (accepted setup credit saves run).run)
+    → (accepted setup credit saves run).answer ≡ Ok (shown_in setup (accepted setup credit saves run).run)
 carries setup credit true run = refl
 carries setup credit false run = refl
 
@@ -304,21 +302,21 @@ record-order = refl
 -- the kinds of a list of events, 0 to 14
 pub kinds : (v : ℤ)
     → map (λ (kind : ℕ). event_of_kind kind v) (0 ∷ 1 ∷ 2 ∷ 3 ∷ 4 ∷ 5 ∷ 6 ∷ 7 ∷ 8 ∷ 9 ∷ 10 ∷ 11 ∷ 12 ∷ 13 ∷ 14 ∷ [])
-    ≡ Asked.Of (Event.Tick (Reading.Value v))
-    ∷ Asked.Of (Event.Tick Reading.Over)
-    ∷ Asked.Of (Event.Tick Reading.Under)
-    ∷ Asked.Of (Event.Press (Command.Select v))
-    ∷ Asked.Of (Event.Press Command.Start)
-    ∷ Asked.Of (Event.Press Command.Pause)
-    ∷ Asked.Of (Event.Press Command.Reset)
-    ∷ Asked.Of (Event.Press Command.Feed)
-    ∷ Asked.Of (Event.Press Command.Back)
-    ∷ Asked.Of (Event.Press Command.Plus)
-    ∷ Asked.Of (Event.Press Command.Minus)
-    ∷ Asked.Of Event.Cut
-    ∷ Asked.Of (Event.Return (Reading.Value v))
-    ∷ Asked.Of (Event.Return Reading.Over)
-    ∷ Asked.Of (Event.Return Reading.Under)
+    ≡ Some (Event.Tick (Reading.Value v))
+    ∷ Some (Event.Tick Reading.Over)
+    ∷ Some (Event.Tick Reading.Under)
+    ∷ Some (Event.Press (Command.Select v))
+    ∷ Some (Event.Press Command.Start)
+    ∷ Some (Event.Press Command.Pause)
+    ∷ Some (Event.Press Command.Reset)
+    ∷ Some (Event.Press Command.Feed)
+    ∷ Some (Event.Press Command.Back)
+    ∷ Some (Event.Press Command.Plus)
+    ∷ Some (Event.Press Command.Minus)
+    ∷ Some Event.Cut
+    ∷ Some (Event.Return (Reading.Value v))
+    ∷ Some (Event.Return Reading.Over)
+    ∷ Some (Event.Return Reading.Under)
     ∷ []
 unfolding event_of_kind
 kinds v = refl

@@ -12,9 +12,9 @@ use lib.ListN.{length, get_or}
 use Rattle.field.specs.Field.{field}
 use Rattle.field.specs.Tab.{tab}
 use Rattle.limits.specs.Range.{both, between, within, temperature}
-use Rattle.setting.specs.Found.{test, then}
+use Rattle.setting.specs.Found.{test, then, Accepted}
 use Rattle.setting.specs.Setting.{settings_at, first_of, head_found, halves_found, settings_found}
-use Rattle.setting.specs.declared.Checked.TheVariants.{Accepted, Setting}
+use Rattle.setting.specs.declared.BankRefusal.TheVariants.{Setting}
 use Rattle.setting.proofs.Laws.{both_left, both_right, on, first-right}
 use Rattle.capacity.specs.Capacity.{capacity_of}
 use Rattle.bank.specs.View.{numbered as entry, pattern_of, step_of, place_of, no_pattern, no_step}
@@ -28,6 +28,7 @@ use Rattle.position.specs.Program.{limit_of, here_by, is_timer, here_at}
 use Rattle.position.proofs.SetValue.{within-range}
 use Rattle.position.proofs.Keeps.{Fair}
 use Rattle.plain.specs.Setup.{Setup, settings_in, here_in}
+use Rattle.std.specs.Prelude.{Err}
 
 -- ---- the settings
 
@@ -57,7 +58,7 @@ unfolding first_of then test
 all_right [] holds = tt
 all_right (first ∷ xs) holds =
     let good = first-right first xs holds in
-    (good, all_right xs (ap (λ (known : Bool). first_of (then Accepted (test known (Setting first.0) Accepted)) xs) (sym good) ∙ holds))
+    (good, all_right xs (ap (λ (known : Bool). first_of (then Accepted (test known (Err (Setting first.0)) Accepted)) xs) (sym good) ∙ holds))
 
 -- a number within two ends
 inside : (first top : ℕ) → between 1 first top ≡ true → (1 ≤ first) × (first ≤ top)

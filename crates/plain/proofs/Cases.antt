@@ -1,24 +1,16 @@
--- Enums whose case only the other arms of a `match` know.
+-- An answer by its case.
 -- Assumes nothing.
-use mathlib.Core.Path.{◌≡◌, refl}
+use mathlib.Core.Path.{◌≡◌, ap}
 use mathlib.Core.Bool.{true, false}
-use mathlib.Core.List.{[], ◌∷◌}
-use mathlib.Core.Logic.{⊎_elim}
-use native.Mathlib.Omega.{arith}
-use denote.Enum.Declared.{tag_of}
-use types.Run.{OneOf}
-use Rattle.plain.specs.declared.Answer.{Answer}
-use Rattle.plain.specs.Answer.{is_accepted}
-use Rattle.plain.specs.contracts.Answer.{the_type}
+use Rattle.std.specs.Prelude.{Ok, Err}
+use Rattle.position.specs.declared.Shown.{Shown}
+use Rattle.plain.specs.Answer.{Answer, is_accepted}
+use Rattle.plain.specs.declared.AnyRefusal.{AnyRefusal}
 
-pub is-accepted : (answer : Answer) → OneOf (0 ∷ []) (tag_of the_type answer) → is_accepted answer ≡ true
+pub is-accepted : {answer : Answer} {shown : Shown} → answer ≡ Ok shown → is_accepted answer ≡ true
 unfolding is_accepted
-is-accepted (Answer.Accepted shown) holds = refl
-is-accepted (Answer.Bank found) holds = absurd (omega arith)
-is-accepted (Answer.Refused refusal) holds = absurd (omega arith)
+is-accepted is = ap is_accepted is
 
-pub is-refused : (answer : Answer) → OneOf (1 ∷ 2 ∷ []) (tag_of the_type answer) → is_accepted answer ≡ false
+pub is-refused : {answer : Answer} {refusal : AnyRefusal} → answer ≡ Err refusal → is_accepted answer ≡ false
 unfolding is_accepted
-is-refused (Answer.Accepted shown) holds = absurd (⊎_elim (λ tag. omega arith) (λ tag. omega arith) holds)
-is-refused (Answer.Bank found) holds = refl
-is-refused (Answer.Refused refusal) holds = refl
+is-refused is = ap is_accepted is

@@ -7,7 +7,6 @@ use native.Mathlib.Omega.{arith}
 use native.Mathlib.Nat.{le_trans}
 use borrow.Author.Tests.{eqb-true}
 use lib.Dec.{eqb}
-use Rattle.setting.specs.declared.Checked.TheVariants.{Accepted}
 use Rattle.setting.proofs.Laws.{both_left, both_right}
 use Rattle.bank.specs.Check.{found_in}
 use Rattle.measure.specs.declared.Reading.{Reading}
@@ -35,6 +34,7 @@ use Rattle.plain.proofs.Bank.{fair}
 use Rattle.plain.proofs.Judged.{TakesIn, by-tick, by-press}
 use Rattle.plain.proofs.Credits.{Credits, no-credits, still-credits, credit_of, held, cleared-credit, gained}
 use Rattle.plain.proofs.Good.{sound-readable}
+use Rattle.setting.specs.Found.{Accepted}
 
 both-none : (test : Bool) → both test false ≡ false
 unfolding both

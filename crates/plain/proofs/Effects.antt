@@ -6,7 +6,7 @@ use mathlib.Core.List.{List, [], ◌∷◌}
 use Prim.Native.Nat.{ℕ}
 use borrow.Author.Tests.{not-false}
 use lib.Dec.{eqb}
-use Rattle.setting.specs.Found.{is_accepted as passes}
+use Rattle.setting.proofs.Laws.{unless-cases}
 use Rattle.bank.specs.Check.{found_in}
 use Rattle.position.specs.Command.{is_start}
 use Rattle.position.proofs.Tests.{choice}
@@ -14,15 +14,16 @@ use Rattle.plain.specs.declared.Run.{Run}
 use Rattle.plain.specs.declared.Credit.{Credit}
 use Rattle.plain.specs.declared.Event.{Event}
 use Rattle.plain.specs.declared.Refusal.{Refusal}
-use Rattle.plain.specs.declared.Answer.{Answer}
 use Rattle.plain.specs.declared.Effect.{Effect}
 use Rattle.plain.specs.Record.{sized}
 use Rattle.plain.specs.Setup.{Setup}
-use Rattle.plain.specs.Answer.{is_accepted}
+use Rattle.plain.specs.Answer.{is_accepted, Answer}
 use Rattle.plain.specs.Run.{credited, tick_credit}
 use Rattle.plain.specs.Refusals.{Row, event_rows}
 use Rattle.plain.specs.Event.{State, applied, unchanged, refused, cut_effect, accepted_effect, retained_in, known_effect, event_effect, event_outcome}
 use Rattle.plain.proofs.Judged.{Met, judged-cases}
+use Rattle.std.specs.Prelude.{Err}
+use Rattle.plain.specs.declared.AnyRefusal.{AnyRefusal}
 
 -- ---- an event is refused and changes nothing, or is accepted with a record of its size
 
@@ -36,10 +37,10 @@ module _ (setup : Setup) (store : List ℕ) (power : Bool) (run : Run) (event : 
   unfolding event_effect known_effect retained_in
   by-event denied done =
       let rows = event_rows setup (retained_in setup store) power run event in
-      choice P (passes (found_in setup.bank))
+      unless-cases P (found_in setup.bank)
       (λ _. judged-cases P (refused power run) (accepted_effect setup store run event) rows
-      (all-met (λ refusal. denied (Answer.Refused refusal)) rows) (λ passed. done (not-false _ passed.1.0)))
-      (λ _. denied (Answer.Bank (found_in setup.bank)))
+      (all-met (λ refusal. denied (Err (AnyRefusal.Own refusal))) rows) (λ passed. done (not-false _ passed.1.0)))
+      (λ refusal _. denied (Err (AnyRefusal.Bank refusal)))
 
 -- ---- a refusal leaves the state
 

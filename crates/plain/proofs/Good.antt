@@ -8,13 +8,11 @@ use borrow.Author.Tests.{lt-ltb, le-leb, ltb-false, leb-true, eqb-false, not-fal
 use lib.Dec.{eqb, ltb, leb}
 use lib.IntN.{ℤ, pos, negsuc, nat_abs}
 use Rattle.limits.specs.Range.{both, within, temperature}
-use Rattle.setting.specs.declared.Checked.TheVariants.{Accepted}
 use Rattle.setting.proofs.Laws.{both_left, both_right}
 use Rattle.bank.specs.View.{place_of, pattern_of}
 use Rattle.bank.specs.Check.{found_in}
 use Rattle.measure.specs.Filter.{after_of, first_of, whole_of, sound_of, outside_of}
 use Rattle.measure.specs.declared.Reading.{Reading}
-use Rattle.measure.specs.declared.Whole.{Whole}
 use Rattle.measure.proofs.Laws.{after-sound, first-sound, whole-range, Fits64, after-fits, first_fits}
 use Rattle.position.specs.Tests.{all}
 use Rattle.position.specs.Program.{limit_of, here_by, here_at, second_position, tick_position}
@@ -26,8 +24,7 @@ use Rattle.position.proofs.Tests.{either-false, choice}
 use Rattle.position.proofs.Cases.{next-cases, tick-cases}
 use Rattle.position.proofs.Laws.{second-keeps, tick-pattern, start-pattern, feed-pattern, back-pattern, plus-pattern, minus-pattern, pause-pattern, return-pattern}
 use Rattle.position.proofs.Readable.{readable-pattern}
-use Rattle.position.proofs.Keeps.{Along, Bounded, bounded, taken-active, tick-stays, return-stays, start-stays, pause-stays, feed-stays}
-use Rattle.position.proofs.Keeps.{back-stays, plus-stays, minus-stays, stop-stays}
+use Rattle.position.proofs.Keeps.{Along, Bounded, bounded, taken-active, tick-stays, return-stays, start-stays, pause-stays, feed-stays, back-stays, plus-stays, minus-stays, stop-stays}
 use Rattle.alarm.specs.Alarm.{all_bounded}
 use Rattle.alarm.specs.declared.Alarms.{Alarms}
 use Rattle.alarm.proofs.Bounds.{tick-bounded, mode-bounded, kept-bounded, clear-bounded}
@@ -41,6 +38,8 @@ use Rattle.plain.specs.Replay.{Live, lived, Plain, tick, press, plain_effect, re
 use Rattle.plain.proofs.Bank.{initial-fine, first-pattern, target-fine, some-pass, fair}
 use Rattle.plain.proofs.Judged.{TakesIn, by-tick, by-press}
 use Rattle.plain.proofs.Credits.{Credits, no-credits, still-credits}
+use Rattle.std.specs.Prelude.{Option, None, Some}
+use Rattle.setting.specs.Found.{Accepted}
 
 -- ---- facts about values
 
@@ -137,7 +136,7 @@ module _ (setup : Setup) where
         omega (arith, good.unsaved)
 
     -- the alarms stay within their bounds: in mode 1 no second stops, else the mode stays, and then they are judged
-    step-bounded : (whole : Whole)
+    step-bounded : (whole : Option ℤ)
         → all_bounded setup.config.alarms (tick_position (here_in setup run.position) whole run.position).mode run.alarms ≡ true
     step-bounded whole =
         let here = here_in setup run.position in
@@ -187,9 +186,9 @@ module _ (setup : Setup) where
     unfolding lacks_value start_base is_value value_of both
     base-fine holds = go (eqb (settings_in setup).start 0) holds
       where
-        value : (whole : Whole) → whole_of run.measured ≡ whole → is_value whole ≡ true → temperature (value_of whole) ≡ true
-        value Whole.Nothing known some = absurd (false≢true some)
-        value (Whole.Value v) known some = in-range v (whole-range run.measured v known)
+        value : (whole : Option ℤ) → whole_of run.measured ≡ whole → is_value whole ≡ true → temperature (value_of whole) ≡ true
+        value None known some = absurd (false≢true some)
+        value (Some v) known some = in-range v (whole-range run.measured v known)
 
         go : (test : Bool) → both test (not (is_value (whole_of run.measured))) ≡ false
             → temperature (cond test (value_of (whole_of run.measured)) (settings_in setup).initial) ≡ true

@@ -8,7 +8,6 @@ use lib.Dec.{eqb}
 use Rattle.setting.specs.declared.Settings.{Settings}
 use Rattle.measure.specs.Filter.{whole_of, outside_of}
 use Rattle.measure.specs.declared.Reading.{Reading}
-use Rattle.measure.specs.declared.Whole.{Whole}
 use Rattle.position.specs.declared.Position.{Position}
 use Rattle.position.specs.declared.Here.{Here}
 use Rattle.position.specs.declared.Command.{Command}
@@ -25,6 +24,8 @@ use Rattle.plain.specs.Answer.{number_of}
 use Rattle.plain.specs.Refusals.{Row, judged, no_record, sound_state, event_rows}
 use Rattle.plain.specs.Event.{refused, tick_effect, press_effect}
 use Rattle.plain.specs.Replay.{tick, press, plain_effect}
+use Rattle.std.specs.Prelude.{Option}
+use lib.IntN.{ℤ}
 
 -- ---- any rows
 
@@ -50,7 +51,7 @@ module _ {A : Type 0} (P : A → Type 0) (refuse : Refusal → A) (next : A) whe
 
 -- ---- a command that no row meets
 
-pub record Takes (settings : Settings) (here : Here) (whole : Whole) (position : Position) (command : Command) : Type 0 where
+pub record Takes (settings : Settings) (here : Here) (whole : Option ℤ) (position : Position) (command : Command) : Type 0 where
   pub selects : selects_of settings command ≡ true
   pub takes : takes_of command position.mode ≡ true
   pub some-step : both (is_start command) (eqb here.count 0) ≡ false

@@ -21,8 +21,8 @@ use Rattle.measure.specs.declared.Reading.{Reading}
 use Rattle.position.specs.Tests.{both, all}
 use Rattle.position.specs.declared.Command.{Command}
 use Rattle.plain.specs.declared.Event.{Event}
-use Rattle.plain.specs.declared.Asked.{Asked}
 use Rattle.plain.specs.Listed.{event_of_kind, asked_at, is_of, formed, asked_events, events_in, tick_kind, kind_of, reading_value, value_in, list_bytes}
+use Rattle.std.specs.Prelude.{Option, None, Some}
 
 -- ---- kinds: 0 to 14 are known, and no other
 
@@ -30,7 +30,7 @@ pub known : (kind : ℕ) (v : ℤ) → kind ≤ 14 → is_of (event_of_kind kind
 unfolding event_of_kind both
 known kind v fits = in_table (λ i entry. is_of (event_of_kind i v)) (replicate 15 0) refl kind (omega arith)
 
-pub unknown : (kind : ℕ) (v : ℤ) → 14 < kind → event_of_kind kind v ≡ Asked.NoForm
+pub unknown : (kind : ℕ) (v : ℤ) → 14 < kind → event_of_kind kind v ≡ None
 unfolding event_of_kind
 unknown kind v fits =
     rw (
@@ -58,7 +58,7 @@ unknown kind v fits =
 
 module _ (bytes : List ℕ) where
   -- what is asked for from an offset on
-  abbrev pub asked_from : ℕ → List Asked
+  abbrev pub asked_from : ℕ → List (Option Event)
   asked_from at = tab (asked_at bytes) 5 at ((length bytes - at) / 5)
 
   pub asked-more : (at : ℕ) → at + 5 ≤ length bytes → asked_from at ≡ asked_at bytes at ∷ asked_from (at + 5)
@@ -126,7 +126,7 @@ pub record Lists (bytes : List ℕ) (events : List Event) : Type 0 where
   pub holds : events_in bytes ≡ events
 
 -- each event is the one that its kind and value ask for
-kind-asks : (event : Event) → event_of_kind (kind_of event) (value_in event) ≡ Asked.Of event
+kind-asks : (event : Event) → event_of_kind (kind_of event) (value_in event) ≡ Some event
 unfolding event_of_kind kind_of tick_kind value_in reading_value
 kind-asks (Event.Tick (Reading.Value v)) = refl
 kind-asks (Event.Tick Reading.Over) = refl
@@ -160,7 +160,7 @@ module _ (event : Event) (events : List Event) (bytes : List ℕ) (at : ℕ) (sa
   unfolding list_bytes
   value-at fits = signed-at w32 bytes (at + 1) (value_in event) (list_bytes events) fits (sym (drop-drop 1 at bytes) ∙ ap (drop 1) same)
 
-  asked-first : SFits w32 (value_in event) → asked_at bytes at ≡ Asked.Of event
+  asked-first : SFits w32 (value_in event) → asked_at bytes at ≡ Some event
   unfolding asked_at
   asked-first fits = (λ i. event_of_kind (kind_at i) (value-at fits i)) ∙ kind-asks event
 
@@ -170,19 +170,19 @@ module _ (event : Event) (events : List Event) (bytes : List ℕ) (at : ℕ) (sa
 
 -- such bytes ask for the events
 asked-written : (events : List Event) (bytes : List ℕ) (at : ℕ) → InRange events → drop at bytes ≡ list_bytes events
-    → tab (asked_at bytes) 5 at (length events) ≡ map Asked.Of events
+    → tab (asked_at bytes) 5 at (length events) ≡ map Some events
 unfolding tab
 asked-written [] bytes at fits same = refl
 asked-written (event ∷ events) bytes at fits same =
     let others = others-at event events bytes at same in
     λ i. asked-first event events bytes at same fits.0 i ∷ asked-written events bytes (at + 5) fits.1 others i
 
-all_known : (events : List Event) → all (map is_of (map Asked.Of events)) ≡ true
+all_known : (events : List Event) → all (map is_of (map Some events)) ≡ true
 unfolding all both
 all_known [] = refl
 all_known (event ∷ events) = all_known events
 
-asked-events : (events : List Event) → asked_events (map Asked.Of events) ≡ events
+asked-events : (events : List Event) → asked_events (map Some events) ≡ events
 asked-events [] = refl
 asked-events (event ∷ events) = ap (λ (low : List Event). event ∷ low) (asked-events events)
 
@@ -193,7 +193,7 @@ written-list events fits =
     let size = length-list events in
     let fives : length bytes % 5 ≡ 0 = omega arith in
     let number : length bytes / 5 ≡ length events = omega arith in
-    let asked : tab (asked_at bytes) 5 0 (length bytes / 5) ≡ map Asked.Of events = rw number (asked-written events bytes 0 fits refl) in
+    let asked : tab (asked_at bytes) 5 0 (length bytes / 5) ≡ map Some events = rw number (asked-written events bytes 0 fits refl) in
     record {
       is-list = rw (eq-eqb (length bytes % 5) 0 fives, asked) (all_known events);
       holds = ap asked_events asked ∙ asked-events events;

@@ -1,13 +1,14 @@
 -- The laws of the record: what was written is read back, and what was read is written back. They hold of any parts one behind the other; the
 -- record adds a line for each of its parts.
 -- Assumes nothing.
-use Prim.Native.Nat.{ℕ, ◌+◌, ◌*◌, ◌<◌, ◌≤◌}
+use Prim.Native.Nat.{ℕ, suc, ◌+◌, ◌*◌, ◌<◌, ◌≤◌}
 use mathlib.Core.Path.{◌≡◌, refl, sym, ap, ◌∙◌}
 use mathlib.Core.List.{List, [], ◌∷◌, ◌++◌, append_assoc, append-nil}
 use native.Mathlib.Nat.{add-zero, mul-add, mul-one}
+use native.Mathlib.Numerals.{add-one}
 use native.Mathlib.Omega.{arith}
 use lib.ListN.{length, take, drop, get_or, replicate, length-append, length-replicate, get_or-replicate}
-use lib.Seq.{sets, take_all, drop_at, drop-drop}
+use lib.Seq.{sets, take_all, drop_at, drop-drop, drop-cons}
 use mir.Syntax.{w16}
 use mir.Val.{SFits, to_z}
 use mir.Facts.{to_z-of_z, Fits-of_z, sfits_to_z}
@@ -41,9 +42,12 @@ pub put-turn : (store numbers : List ℕ) (at i width count : ℕ) → i < count
     → sets (sets store (at + width * i) (digits width (get_or numbers i 0))) (at + width * (i + 1)) (row (drop (i + 1) (replicate count width)) (drop (i + 1) numbers))
     ≡ sets store (at + width * i) (row (drop i (replicate count width)) (drop i numbers))
 put-turn store numbers at i width count holds list =
-    let same : get_or (replicate count width) i 0 ≡ width = get_or-replicate {A = ℕ} count i width 0 holds in
+    let widths = replicate count width in
+    let less : i < length widths = rw (length-replicate {A = ℕ} count width) holds in
+    let same : get_or widths i 0 ≡ width = get_or-replicate {A = ℕ} count i width 0 holds in
     let next : at + width * (i + 1) ≡ at + width * i + width = rw (mul-add, mul-one) (omega arith) in
-    rw next (rw same at (row-turn store (replicate count width) numbers (at + width * i) i (rw (length-replicate {A = ℕ} count width) holds) list))
+    rw (next, drop-cons widths i 0 less, drop-cons numbers i 0 list, same, add-one)
+    (row-turn store (drop (suc i) widths) (drop (suc i) numbers) (at + width * i) width (get_or numbers i 0))
 
 -- ---- parts one behind the other
 

@@ -8,8 +8,8 @@ use native.Mathlib.Omega.{arith}
 use borrow.Author.Tests.{eq-eqb, not-true}
 use lib.Dec.{eqb}
 use lib.ListN.{length}
-use Rattle.setting.specs.Found.{is_accepted as passes}
-use Rattle.setting.proofs.Laws.{is-accepted}
+use Rattle.setting.specs.Found.{Checked, Accepted, unless}
+use Rattle.setting.specs.declared.BankRefusal.{BankRefusal}
 use Rattle.bank.specs.Check.{found_in}
 use Rattle.measure.specs.Filter.{whole_of, first_of, outside_of}
 use Rattle.measure.specs.declared.Reading.{Reading}
@@ -25,11 +25,10 @@ use Rattle.plain.specs.declared.Run.{Run}
 use Rattle.plain.specs.declared.Credit.{Credit}
 use Rattle.plain.specs.declared.Event.{Event}
 use Rattle.plain.specs.declared.Refusal.{Refusal}
-use Rattle.plain.specs.declared.Answer.{Answer}
 use Rattle.plain.specs.declared.Effect.{Effect}
 use Rattle.plain.specs.Record.{Checkpoint, checkpoint_in, credits_in, sized}
 use Rattle.plain.specs.Setup.{Setup, Usable, settings_in, here_in}
-use Rattle.plain.specs.Answer.{is_accepted}
+use Rattle.plain.specs.Answer.{is_accepted, Answer}
 use Rattle.plain.specs.Run.{moved_to, readable_in, shown_in, credited, tick_credit, return_by}
 use Rattle.plain.specs.Refusals.{sound_state}
 use Rattle.plain.specs.Event.{State, fresh, dark_run, dark, After, after, checkpoint_for, record_for, applied, cut_effect, brought_back, refused, return_effect, retained_in, known_effect}
@@ -39,6 +38,8 @@ use Rattle.plain.proofs.Judged.{by-tick, by-press}
 use Rattle.plain.proofs.Credits.{Credits}
 use Rattle.plain.proofs.Good.{Good, good-readable, good-sound, good-bounded, good-live, good-returned, good-fresh}
 use Rattle.plain.proofs.Record.{Ranged, length-record, read_back}
+use Rattle.std.specs.Prelude.{Ok, Err}
+use Rattle.plain.specs.declared.AnyRefusal.{AnyRefusal}
 
 -- ---- the record of a good state
 
@@ -338,17 +339,17 @@ module _ (setup : Setup) (store : List ℕ) where
   alike answer holds (event ∷ events) = ap (λ (left : After). events_from setup left events) (holds event) ∙ alike answer holds events
 
   -- 11 to 14
-  no-bank : passes (found_in setup.bank) ≡ false → (events : List Event)
-      → events_from setup (after dark store (Answer.Bank (found_in setup.bank))) events ≡ after dark store (Answer.Bank (found_in setup.bank))
+  no-bank : {refusal : BankRefusal} → found_in setup.bank ≡ Err refusal → (events : List Event)
+      → events_from setup (after dark store (Err (AnyRefusal.Bank refusal))) events ≡ after dark store (Err (AnyRefusal.Bank refusal))
   unfolding event_outcome event_effect credited
-  no-bank holds events = alike (Answer.Bank (found_in setup.bank)) (λ event. rw holds) events
+  no-bank {refusal} holds events = alike (Err (AnyRefusal.Bank refusal)) (λ event. rw holds) events
 
   -- 22, 41
-  no_call : (answer : Refusal) → passes (found_in setup.bank) ≡ true
+  no_call : (answer : Refusal) → found_in setup.bank ≡ Accepted
       → ((event : Event) → known_effect setup store false dark_run event ≡ refused false dark_run answer) → (events : List Event)
-      → events_from setup (after dark store (Answer.Refused answer)) events ≡ after dark store (Answer.Refused answer)
+      → events_from setup (after dark store (Err (AnyRefusal.Own answer))) events ≡ after dark store (Err (AnyRefusal.Own answer))
   unfolding event_outcome event_effect credited dark
-  no_call answer holds known events = alike (Answer.Refused answer) (λ event. rw (holds, known event)) events
+  no_call answer holds known events = alike (Err (AnyRefusal.Own answer)) (λ event. rw (holds, known event)) events
 
   no_buffer : sized store ≡ false → (event : Event) → known_effect setup store false dark_run event ≡ refused false dark_run Refusal.Buffer
   unfolding known_effect retained_in sound_state either
@@ -360,36 +361,35 @@ module _ (setup : Setup) (store : List ℕ) where
   no-setting whole right event = rw (whole, right)
 
   -- what making leaves, by its three tests
-  made_by : Bool → Bool → Bool → After
-  made_by passing whole right =
-      cond passing
-      (cond (not whole) (after dark store (Answer.Refused Refusal.Buffer))
-      (cond (not right) (after dark store (Answer.Refused Refusal.AlarmSetting))
-      (after fresh (record_for fresh.run fresh.credits) (Answer.Accepted (shown_in setup fresh.run)))))
-      (after dark store (Answer.Bank (found_in setup.bank)))
+  made_by : Checked → Bool → Bool → After
+  made_by found whole right =
+      unless found (λ refusal. after dark store (Err (AnyRefusal.Bank refusal)))
+      (cond (not whole) (after dark store (Err (AnyRefusal.Own Refusal.Buffer)))
+      (cond (not right) (after dark store (Err (AnyRefusal.Own Refusal.AlarmSetting)))
+      (after fresh (record_for fresh.run fresh.credits) (Ok (shown_in setup fresh.run)))))
 
   -- so what such a list leaves is what making left
   pub not_made : is_accepted (make_outcome setup store).answer ≡ false → (events : List Event)
       → events_from setup (make_outcome setup store) events ≡ make_outcome setup store
   unfolding make_outcome retained_in is_accepted made_by
-  not_made holds events = go (passes (found_in setup.bank)) refl (sized store) refl (all_in_range setup.config.alarms) refl holds
+  not_made holds events = go (found_in setup.bank) refl (sized store) refl (all_in_range setup.config.alarms) refl holds
     where
-      go : (passing : Bool) → passes (found_in setup.bank) ≡ passing → (whole : Bool) → sized store ≡ whole → (right : Bool)
-          → all_in_range setup.config.alarms ≡ right → is_accepted (made_by passing whole right).answer ≡ false
-          → events_from setup (made_by passing whole right) events ≡ made_by passing whole right
-      go true passes-is true whole_is true right_is refused-by = absurd (false≢true (sym refused-by))
-      go true passes-is true whole_is false right_is refused-by = no_call Refusal.AlarmSetting passes-is (no-setting whole_is right_is) events
-      go true passes-is false whole_is right right_is refused-by = no_call Refusal.Buffer passes-is (no_buffer whole_is) events
-      go false passes-is whole whole_is right right_is refused-by = no-bank passes-is events
+      go : (found : Checked) → found_in setup.bank ≡ found → (whole : Bool) → sized store ≡ whole → (right : Bool)
+          → all_in_range setup.config.alarms ≡ right → is_accepted (made_by found whole right).answer ≡ false
+          → events_from setup (made_by found whole right) events ≡ made_by found whole right
+      go (Ok done) found-is true whole_is true right_is refused-by = absurd (false≢true (sym refused-by))
+      go (Ok done) found-is true whole_is false right_is refused-by = no_call Refusal.AlarmSetting found-is (no-setting whole_is right_is) events
+      go (Ok done) found-is false whole_is right right_is refused-by = no_call Refusal.Buffer found-is (no_buffer whole_is) events
+      go (Err refusal) found-is whole whole_is right right_is refused-by = no-bank found-is events
 
   -- and where making is accepted, no refusal meets the setup, and the record has its size
   pub made-begins : is_accepted (make_outcome setup store).answer ≡ true → Usable setup × (sized store ≡ true)
   unfolding make_outcome retained_in is_accepted made_by
-  made-begins holds = go (passes (found_in setup.bank)) refl (sized store) refl (all_in_range setup.config.alarms) refl holds
+  made-begins holds = go (found_in setup.bank) refl (sized store) refl (all_in_range setup.config.alarms) refl holds
     where
-      go : (passing : Bool) → passes (found_in setup.bank) ≡ passing → (whole : Bool) → sized store ≡ whole → (right : Bool)
-          → all_in_range setup.config.alarms ≡ right → is_accepted (made_by passing whole right).answer ≡ true → Usable setup × (sized store ≡ true)
-      go true passes-is true whole_is true right_is accepted-by = (record { bank = is-accepted (found_in setup.bank) passes-is; alarms = right_is }, whole_is)
-      go true passes-is true whole_is false right_is accepted-by = absurd (false≢true accepted-by)
-      go true passes-is false whole_is right right_is accepted-by = absurd (false≢true accepted-by)
-      go false passes-is whole whole_is right right_is accepted-by = absurd (false≢true accepted-by)
+      go : (found : Checked) → found_in setup.bank ≡ found → (whole : Bool) → sized store ≡ whole → (right : Bool)
+          → all_in_range setup.config.alarms ≡ right → is_accepted (made_by found whole right).answer ≡ true → Usable setup × (sized store ≡ true)
+      go (Ok done) found-is true whole_is true right_is accepted-by = (record { bank = found-is; alarms = right_is }, whole_is)
+      go (Ok done) found-is true whole_is false right_is accepted-by = absurd (false≢true accepted-by)
+      go (Ok done) found-is false whole_is right right_is accepted-by = absurd (false≢true accepted-by)
+      go (Err refusal) found-is whole whole_is right right_is accepted-by = absurd (false≢true accepted-by)

@@ -1,10 +1,15 @@
 -- What a caller gets back: the document's number and values of each answer.
 -- Assumes nothing.
-use Rattle.std.specs.Prelude.{ℕ, Bool, true, false, List, [], ◌∷◌, map, ℤ, pos}
+use Rattle.std.specs.Prelude.{ℕ, Bool, true, false, List, [], ◌∷◌, map, ℤ, pos, Option, None, Some}
 use Rattle.setting.specs.Found.{numbers_of as bank_numbers}
-use Rattle.plain.specs.declared.Answer.{Answer}
 use Rattle.plain.specs.declared.Refusal.{Refusal}
-use Rattle.plain.specs.declared.Reply.{Reply}
+use Rattle.std.specs.Prelude.{Result, Ok, Err}
+use Rattle.position.specs.declared.Shown.{Shown}
+use Rattle.plain.specs.declared.AnyRefusal.{AnyRefusal}
+
+-- what is shown if it is accepted, or what it is refused for
+abbrev pub Answer : Type 0
+Answer = Result Shown AnyRefusal
 
 -- the number of each refusal, in their order: 21, 22, 41, 23 to 31
 unfoldable pub number_of : Refusal → ℕ
@@ -28,18 +33,17 @@ bit false = pos 0
 
 -- the number and values of each answer: 0, set value and signals; those of the bank's refusals; the refusal's number
 unfoldable pub numbers_of : Answer → List ℤ
-numbers_of (Answer.Accepted shown) =
+numbers_of (Ok shown) =
     pos 0 ∷ shown.value ∷ bit shown.signals.first ∷ bit shown.signals.second ∷ bit shown.signals.third
     ∷ bit shown.signals.fourth ∷ []
-numbers_of (Answer.Bank found) = map pos (bank_numbers found)
-numbers_of (Answer.Refused refusal) = pos (number_of refusal) ∷ []
+numbers_of (Err (AnyRefusal.Bank refusal)) = map pos (bank_numbers (Err refusal))
+numbers_of (Err (AnyRefusal.Own refusal)) = pos (number_of refusal) ∷ []
 
 unfoldable pub is_accepted : Answer → Bool
-is_accepted (Answer.Accepted shown) = true
-is_accepted (Answer.Bank found) = false
-is_accepted (Answer.Refused refusal) = false
+is_accepted (Ok shown) = true
+is_accepted (Err refusal) = false
 
 -- of a reply; 99 is the answer to bytes that are no list
-unfoldable pub reply_numbers : Reply → List ℤ
-reply_numbers Reply.NoForm = pos 99 ∷ []
-reply_numbers (Reply.Given answer) = numbers_of answer
+unfoldable pub reply_numbers : Option Answer → List ℤ
+reply_numbers None = pos 99 ∷ []
+reply_numbers (Some answer) = numbers_of answer

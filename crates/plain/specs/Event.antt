@@ -1,6 +1,6 @@
 -- What making and each event leave, for every setup, record, state and event: state, record and answer.
 -- Assumes nothing.
-use Rattle.std.specs.Prelude.{ℕ, Bool, true, false, cond, List, [], ◌∷◌, ℤ, pos, replicate}
+use Rattle.std.specs.Prelude.{ℕ, Bool, true, false, cond, List, [], ◌∷◌, ℤ, pos, replicate, Ok, Err}
 use Rattle.bank.specs.Check.{found_in}
 use Rattle.measure.specs.declared.Measured.{Measured}
 use Rattle.measure.specs.declared.Reading.{Reading}
@@ -10,13 +10,13 @@ use Rattle.plain.specs.declared.Run.{Run}
 use Rattle.plain.specs.declared.Credit.{Credit}
 use Rattle.plain.specs.declared.Event.{Event}
 use Rattle.plain.specs.declared.Refusal.{Refusal}
-use Rattle.plain.specs.declared.Answer.{Answer}
 use Rattle.plain.specs.declared.Effect.{Effect}
 use Rattle.plain.specs.Record.{Checkpoint, record_of, position_in, credits_in, alarms_in, sized}
 use Rattle.plain.specs.Setup.{Setup}
-use Rattle.plain.specs.Answer.{numbers_of}
+use Rattle.plain.specs.Answer.{numbers_of, Answer}
 use Rattle.plain.specs.Run.{fresh_run, saved, readable_in, shown_in, credited, tick_run, tick_credit, tick_saves, command_run, command_credit, return_run}
 use Rattle.plain.specs.Refusals.{checked, judged, Retained, call_rows, event_rows}
+use Rattle.plain.specs.declared.AnyRefusal.{AnyRefusal}
 
 -- ---- the state, and what a call leaves
 
@@ -76,7 +76,7 @@ abbrev pub unchanged : Bool → Run → Answer → Effect
 unchanged power run answer = record { power = power; run = run; credit = Credit.Keep; saves = false; answer = answer }
 
 abbrev pub refused : Bool → Run → Refusal → Effect
-refused power run refusal = unchanged power run (Answer.Refused refusal)
+refused power run refusal = unchanged power run (Err (AnyRefusal.Own refusal))
 
 -- accepted with power on, with the run that is left
 abbrev pub accepted : Setup → Credit → Bool → Run → Effect
@@ -86,7 +86,7 @@ accepted setup credit saves run =
       run = cond saves (saved run) run;
       credit = credit;
       saves = saves;
-      answer = Answer.Accepted (shown_in setup run);
+      answer = Ok (shown_in setup run);
     }
 
 -- a tick
@@ -106,7 +106,7 @@ cut_effect setup =
       run = dark_run;
       credit = Credit.Clear;
       saves = false;
-      answer = Answer.Accepted (shown_in setup dark_run);
+      answer = Ok (shown_in setup dark_run);
     }
 
 -- what a record brings back, before the choices
@@ -148,8 +148,8 @@ event_outcome setup store state event =
 unfoldable pub make_outcome : Setup → List ℕ → After
 make_outcome setup store =
     checked (found_in setup.bank) (after dark store)
-    (judged (call_rows setup (retained_in setup store)) (λ refusal. after dark store (Answer.Refused refusal))
-    (after fresh (record_for fresh.run fresh.credits) (Answer.Accepted (shown_in setup fresh.run))))
+    (judged (call_rows setup (retained_in setup store)) (λ refusal. after dark store (Err (AnyRefusal.Own refusal)))
+    (after fresh (record_for fresh.run fresh.credits) (Ok (shown_in setup fresh.run))))
 
 -- ---- a list of events: each gets the setup, and the state and record that the one before it left, refused or not
 

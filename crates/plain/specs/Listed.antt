@@ -9,50 +9,50 @@ use Rattle.measure.specs.declared.Reading.{Reading}
 use Rattle.position.specs.Tests.{both, all}
 use Rattle.position.specs.declared.Command.{Command}
 use Rattle.plain.specs.declared.Event.{Event}
-use Rattle.plain.specs.declared.Asked.{Asked}
+use Rattle.std.specs.Prelude.{Option, None, Some}
 
 -- ---- kinds
 
 -- 0 tick with a value, 1 tick over, 2 tick under, 3 select, 4 start, 5 pause, 6 reset, 7 feed, 8 back, 9 plus, 10 minus, 11 cut, 12 return with
 -- a value, 13 return over, 14 return under
-unfoldable pub event_of_kind : ℕ → ℤ → Asked
+unfoldable pub event_of_kind : ℕ → ℤ → Option Event
 event_of_kind kind v =
-    cond (eqb kind 0) (Asked.Of (Event.Tick (Reading.Value v)))
-    (cond (eqb kind 1) (Asked.Of (Event.Tick Reading.Over))
-    (cond (eqb kind 2) (Asked.Of (Event.Tick Reading.Under))
-    (cond (eqb kind 3) (Asked.Of (Event.Press (Command.Select v)))
-    (cond (eqb kind 4) (Asked.Of (Event.Press Command.Start))
-    (cond (eqb kind 5) (Asked.Of (Event.Press Command.Pause))
-    (cond (eqb kind 6) (Asked.Of (Event.Press Command.Reset))
-    (cond (eqb kind 7) (Asked.Of (Event.Press Command.Feed))
-    (cond (eqb kind 8) (Asked.Of (Event.Press Command.Back))
-    (cond (eqb kind 9) (Asked.Of (Event.Press Command.Plus))
-    (cond (eqb kind 10) (Asked.Of (Event.Press Command.Minus))
-    (cond (eqb kind 11) (Asked.Of Event.Cut)
-    (cond (eqb kind 12) (Asked.Of (Event.Return (Reading.Value v)))
-    (cond (eqb kind 13) (Asked.Of (Event.Return Reading.Over))
-    (cond (eqb kind 14) (Asked.Of (Event.Return Reading.Under))
-    Asked.NoForm))))))))))))))
+    cond (eqb kind 0) (Some (Event.Tick (Reading.Value v)))
+    (cond (eqb kind 1) (Some (Event.Tick Reading.Over))
+    (cond (eqb kind 2) (Some (Event.Tick Reading.Under))
+    (cond (eqb kind 3) (Some (Event.Press (Command.Select v)))
+    (cond (eqb kind 4) (Some (Event.Press Command.Start))
+    (cond (eqb kind 5) (Some (Event.Press Command.Pause))
+    (cond (eqb kind 6) (Some (Event.Press Command.Reset))
+    (cond (eqb kind 7) (Some (Event.Press Command.Feed))
+    (cond (eqb kind 8) (Some (Event.Press Command.Back))
+    (cond (eqb kind 9) (Some (Event.Press Command.Plus))
+    (cond (eqb kind 10) (Some (Event.Press Command.Minus))
+    (cond (eqb kind 11) (Some Event.Cut)
+    (cond (eqb kind 12) (Some (Event.Return (Reading.Value v)))
+    (cond (eqb kind 13) (Some (Event.Return Reading.Over))
+    (cond (eqb kind 14) (Some (Event.Return Reading.Under))
+    None))))))))))))))
 
 -- ---- a list that bytes are
 
 -- what the five bytes at an offset ask for
-unfoldable pub asked_at : List ℕ → ℕ → Asked
+unfoldable pub asked_at : List ℕ → ℕ → Option Event
 asked_at bytes at = event_of_kind (field 1 bytes at) (signed_field w32 bytes (at + 1))
 
-abbrev pub is_of : Asked → Bool
-is_of Asked.NoForm = false
-is_of (Asked.Of event) = true
+abbrev pub is_of : Option Event → Bool
+is_of None = false
+is_of (Some event) = true
 
 -- a length that is a multiple of five, and known kinds alone
 unfoldable pub formed : List ℕ → Bool
 formed bytes = both (eqb (length bytes % 5) 0) (all (map is_of (tab (asked_at bytes) 5 0 (length bytes / 5))))
 
 -- the events that are asked for
-abbrev pub asked_events : List Asked → List Event
+abbrev pub asked_events : List (Option Event) → List Event
 asked_events [] = []
-asked_events (Asked.NoForm ∷ asked) = asked_events asked
-asked_events (Asked.Of event ∷ asked) = event ∷ asked_events asked
+asked_events (None ∷ asked) = asked_events asked
+asked_events (Some event ∷ asked) = event ∷ asked_events asked
 
 unfoldable pub events_in : List ℕ → List Event
 events_in bytes = asked_events (tab (asked_at bytes) 5 0 (length bytes / 5))

@@ -1,11 +1,9 @@
 -- The order of refusals: one list of rows, behind the bank's own.
 -- Assumes nothing.
-use Rattle.std.specs.Prelude.{Bool, true, false, cond, not, List, [], ◌∷◌, ◌++◌, eqb}
-use Rattle.setting.specs.Found.{unless}
-use Rattle.setting.specs.declared.Checked.{Checked}
+use Rattle.std.specs.Prelude.{Bool, true, false, cond, not, List, [], ◌∷◌, ◌++◌, eqb, Option, Result}
+use Rattle.setting.specs.Found.{unless, Checked}
 use Rattle.setting.specs.declared.Settings.{Settings}
 use Rattle.measure.specs.Filter.{whole_of, outside_of}
-use Rattle.measure.specs.declared.Whole.{Whole}
 use Rattle.position.specs.Tests.{both, either}
 use Rattle.position.specs.Command.{takes_of, selects_of, is_start, lacks_value, stuck_of, command_position}
 use Rattle.position.specs.declared.Position.{Position}
@@ -15,14 +13,16 @@ use Rattle.alarm.specs.Alarm.{all_in_range}
 use Rattle.plain.specs.declared.Run.{Run}
 use Rattle.plain.specs.declared.Event.{Event}
 use Rattle.plain.specs.declared.Refusal.{Refusal}
-use Rattle.plain.specs.declared.Answer.{Answer}
-use Rattle.plain.specs.declared.Move.{Move}
 use Rattle.plain.specs.Setup.{Setup, settings_in, here_in}
 use Rattle.plain.specs.Run.{sound_in}
+use Rattle.std.specs.Prelude.{Ok, Err}
+use Rattle.plain.specs.Answer.{Answer}
+use Rattle.plain.specs.declared.AnyRefusal.{AnyRefusal}
+use lib.IntN.{ℤ}
 
 -- 11 to 14: all check the bank anew
 abbrev pub checked : {A : Type 0} → Checked → (Answer → A) → A → A
-checked found refuse next = unless found (λ refused. refuse (Answer.Bank refused)) next
+checked found refuse next = unless found (λ refusal. refuse (Err (AnyRefusal.Bank refusal))) next
 
 -- a refusal, and whether it is met
 abbrev pub Row : Type 0
@@ -68,7 +68,7 @@ call_rows setup retained =
     ∷ []
 
 -- of a command on a position
-abbrev pub command_rows : Settings → Here → Whole → Position → Command → List Row
+abbrev pub command_rows : Settings → Here → Option ℤ → Position → Command → List Row
 command_rows settings here whole position command =
     (Refusal.NoPattern, not (selects_of settings command))
     ∷ (Refusal.WrongMode, not (takes_of command position.mode))
@@ -101,7 +101,7 @@ event_rows setup retained power run event =
     ∷ []
 
 -- ---- a command on a position: 26 to 30, or where it goes. `first` is what the bank says at step 1 in pass 1
-unfoldable pub command_move : Settings → Here → Here → Whole → Position → Command → Move
+unfoldable pub command_move : Settings → Here → Here → Option ℤ → Position → Command → Result Position Refusal
 command_move settings here first whole position command =
-    judged (command_rows settings here whole position command) Move.No
-    (Move.To (command_position settings here first whole position command))
+    judged (command_rows settings here whole position command) Err
+    (Ok (command_position settings here first whole position command))

@@ -1,6 +1,6 @@
 -- The replay machine: the plain machine without cut or record, always on.
 -- Assumes nothing.
-use Rattle.std.specs.Prelude.{ℕ, Bool, true, false, not, List, eqb}
+use Rattle.std.specs.Prelude.{ℕ, Bool, true, false, not, List, eqb, Ok, Err}
 use Rattle.measure.specs.Filter.{outside_of}
 use Rattle.measure.specs.declared.Reading.{Reading}
 use Rattle.position.specs.Tests.{both}
@@ -11,14 +11,14 @@ use Rattle.outage.specs.Credit.{Counting}
 use Rattle.plain.specs.declared.Run.{Run}
 use Rattle.plain.specs.declared.Event.{Event}
 use Rattle.plain.specs.declared.Refusal.{Refusal}
-use Rattle.plain.specs.declared.Answer.{Answer}
 use Rattle.plain.specs.declared.Effect.{Effect}
 use Rattle.plain.specs.Record.{credits_in}
 use Rattle.plain.specs.Setup.{Setup}
-use Rattle.plain.specs.Answer.{is_accepted}
+use Rattle.plain.specs.Answer.{is_accepted, Answer}
 use Rattle.plain.specs.Run.{shown_in, credited, return_run}
 use Rattle.plain.specs.Refusals.{judged, no_record, event_rows}
 use Rattle.plain.specs.Event.{State, fresh, dark_run, record_for, refused, tick_effect, press_effect, brought_back}
+use Rattle.plain.specs.declared.AnyRefusal.{AnyRefusal}
 
 -- ---- what the machine keeps
 
@@ -64,9 +64,9 @@ lived live effect = record { run = effect.run; credits = credited effect.credit 
 
 -- with power off: 25 for a return, 23 for all else
 unfoldable pub refused_off : Listed Plain Reading → Answer
-refused_off (other event) = Answer.Refused Refusal.PowerOff
-refused_off cut = Answer.Refused Refusal.PowerOff
-refused_off (back reading) = Answer.Refused Refusal.Outside
+refused_off (other event) = Err (AnyRefusal.Own Refusal.PowerOff)
+refused_off cut = Err (AnyRefusal.Own Refusal.PowerOff)
+refused_off (back reading) = Err (AnyRefusal.Own Refusal.Outside)
 
 -- a return added with power off acts on the state left by the event before it
 abbrev pub returned_live : Setup → Reading → Live → Live
@@ -77,7 +77,7 @@ abbrev pub restored : List ℕ → Live
 restored store = record { run = brought_back store; credits = credits_in store }
 
 abbrev pub answer_by : Setup → Live → Answer
-answer_by setup live = Answer.Accepted (shown_in setup live.run)
+answer_by setup live = Ok (shown_in setup live.run)
 
 -- ---- the controller over a setup, as a machine
 
@@ -93,8 +93,8 @@ machine setup =
       made = answer_by setup fresh_live;
       run = λ live event. (lived live (plain_effect setup true live.run event), (plain_effect setup true live.run event).answer);
       saves = λ live event. (plain_effect setup true live.run event).saves;
-      refused-on = λ live reading. Answer.Refused Refusal.PowerOn;
-      cut-answer = Answer.Accepted (shown_in setup dark_run);
+      refused-on = λ live reading. Err (AnyRefusal.Own Refusal.PowerOn);
+      cut-answer = Ok (shown_in setup dark_run);
       accepts = λ reading. not (outside_of reading);
       refused-off = λ store event. refused_off event;
       return = λ live reading. (returned_live setup reading live, answer_by setup (returned_live setup reading live));

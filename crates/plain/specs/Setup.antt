@@ -3,13 +3,13 @@
 use Rattle.std.specs.Prelude.{ℕ, ◌≡◌, true, List}
 use Rattle.setting.specs.Setting.{settings_at}
 use Rattle.setting.specs.declared.Settings.{Settings}
-use Rattle.setting.specs.declared.Checked.{Checked}
 use Rattle.bank.specs.Check.{found_in}
 use Rattle.position.specs.declared.Position.{Position}
 use Rattle.position.specs.declared.Here.{Here}
 use Rattle.position.specs.Program.{said_at, first_at}
 use Rattle.alarm.specs.Alarm.{all_in_range}
 use Rattle.plain.specs.declared.Config.{Config}
+use Rattle.setting.specs.Found.{Accepted}
 
 -- the bank, and the settings that go beside it
 pub record Setup : Type 0 where
@@ -21,7 +21,7 @@ over bank config = record { bank = bank; config = config }
 
 -- one that no refusal meets: the bank is accepted, the settings beside it are in range
 pub record Usable (setup : Setup) : Type 0 where
-  pub bank : found_in setup.bank ≡ Checked.Accepted
+  pub bank : found_in setup.bank ≡ Accepted
   pub alarms : all_in_range setup.config.alarms ≡ true
 
 abbrev pub settings_in : Setup → Settings

@@ -1,10 +1,10 @@
-// What the controller's definitions speak of: a run, what an event does to it, and the answers. There is no code here.
+// What the controller's definitions speak of: a run, what an event does to it, and what it is refused for. There is no code here.
 #![tactic(auto)]
 
 use alarm::{AlarmSettings, Alarms};
 use measure::{Measured, Reading};
 use position::{Command, Position, Shown};
-use setting::Checked;
+use setting::BankRefusal;
 
 // The settings that go beside the bank.
 #[derive(Clone, Copy)]
@@ -30,13 +30,6 @@ pub enum Event {
     Return(Reading),
 }
 
-// What a line or a kind asks for: an event, or nothing if it has no known form.
-#[derive(Clone, Copy)]
-pub enum Asked {
-    NoForm,
-    Of(Event),
-}
-
 // What an event does to the credits: nothing, one more to a step, all to 0, or all as the record has them.
 #[derive(Clone, Copy)]
 pub enum Credit {
@@ -46,43 +39,28 @@ pub enum Credit {
     Restore,
 }
 
-// The controller's own refusals. `number_of` gives the document's number of each.
+// The controller's own refusals, with the document's number of each, which `number_of` gives too.
 #[derive(Clone, Copy)]
 pub enum Refusal {
-    Unsound,
-    Buffer,
-    AlarmSetting,
-    PowerOff,
-    PowerOn,
-    Outside,
-    NoPattern,
-    WrongMode,
-    NoStep,
-    NoValue,
-    Stuck,
-    Unreadable,
+    Unsound = 21,
+    Buffer = 22,
+    AlarmSetting = 41,
+    PowerOff = 23,
+    PowerOn = 24,
+    Outside = 25,
+    NoPattern = 26,
+    WrongMode = 27,
+    NoStep = 28,
+    NoValue = 29,
+    Stuck = 30,
+    Unreadable = 31,
 }
 
-// What a caller gets back. `numbers_of` gives the document's number and values of each case.
+// What a call is refused for: the bank, or a refusal of the controller's own. `numbers_of` gives the document's number and values of each case.
 #[derive(Clone, Copy)]
-pub enum Answer {
-    Accepted(Shown),
-    Bank(Checked),
-    Refused(Refusal),
-}
-
-// What a list of events is answered: 99 for bytes that are no list, or the answer to its last event.
-#[derive(Clone, Copy)]
-pub enum Reply {
-    NoForm,
-    Given(Answer),
-}
-
-// What a command makes of a position.
-#[derive(Clone, Copy)]
-pub enum Move {
-    To(Position),
-    No(Refusal),
+pub enum AnyRefusal {
+    Bank(BankRefusal),
+    Own(Refusal),
 }
 
 // What an event does: the power and the run that it leaves, what it does to the credits, whether it saves, and its answer.
@@ -92,5 +70,5 @@ pub struct Effect {
     pub run: Run,
     pub credit: Credit,
     pub saves: bool,
-    pub answer: Answer,
+    pub answer: Result<Shown, AnyRefusal>,
 }

@@ -12,17 +12,15 @@ use lib.IntN.{ℤ, pos}
 use lib.Signed.{le_z}
 use Rattle.setting.specs.declared.Settings.{Settings}
 use Rattle.bank.specs.declared.Place.{Place}
-use Rattle.measure.specs.declared.Whole.{Whole}
 use Rattle.position.specs.declared.Position.{Position}
 use Rattle.position.specs.declared.Here.{Here}
 use Rattle.position.specs.declared.Command.{Command}
 use Rattle.position.specs.Tests.{both, either, apart, numbered}
-use Rattle.position.specs.Program.{timed, placed, limit_of, here_by, here_of, active, toward, ramp_of, set_value_of, near_of, past_of, in_zone_of, second_position, leaves_of}
-use Rattle.position.specs.Program.{end_position, next_position, tick_position, signal_of}
-use Rattle.position.specs.Command.{with_mode, takes_of, stop_position, start_base, value_of, pause_position, feed_position, back_position, plus_moves, plus_position}
-use Rattle.position.specs.Command.{minus_moves, minus_position}
+use Rattle.position.specs.Program.{timed, placed, limit_of, here_by, here_of, active, toward, ramp_of, set_value_of, near_of, past_of, in_zone_of, second_position, leaves_of, end_position, next_position, tick_position, signal_of}
+use Rattle.position.specs.Command.{with_mode, takes_of, stop_position, start_base, value_of, pause_position, feed_position, back_position, plus_moves, plus_position, minus_moves, minus_position}
 use Rattle.position.specs.Return.{goes_on, return_position, times_right}
 use Rattle.position.proofs.Tests.{both_true, either-right}
+use Rattle.std.specs.Prelude.{Option, None, Some}
 
 -- both fail by the second
 never : (test other : Bool) → other ≡ false → both test other ≡ false
@@ -77,20 +75,20 @@ module _ (here : Here) (position : Position) where
 
 module _ (here : Here) (b : ℤ) where
   -- the band is not turned round: what is within the zone is in it, its ends too, and what is outside is not
-  pub zone-holds : (value : ℤ) → 0 < here.zone → apart value here.target ≤ here.zone → in_zone_of here b (Whole.Value value) ≡ true
+  pub zone-holds : (value : ℤ) → 0 < here.zone → apart value here.target ≤ here.zone → in_zone_of here b (Some value) ≡ true
   unfolding in_zone_of near_of
   zone-holds value some near = rw (ne_eqb here.zone 0 (λ same. omega arith)) (le-leb _ _ near)
 
-  pub zone-ends : (value : ℤ) → 0 < here.zone → here.zone < apart value here.target → in_zone_of here b (Whole.Value value) ≡ false
+  pub zone-ends : (value : ℤ) → 0 < here.zone → here.zone < apart value here.target → in_zone_of here b (Some value) ≡ false
   unfolding in_zone_of near_of
   zone-ends value some far = rw (ne_eqb here.zone 0 (λ same. omega arith)) (lt-leb _ _ far)
 
   -- zone 0 is judged from b: above counts if b ≤ target, below otherwise
-  pub past-above : (value : ℤ) → here.zone ≡ 0 → le_z b here.target ≡ true → in_zone_of here b (Whole.Value value) ≡ le_z here.target value
+  pub past-above : (value : ℤ) → here.zone ≡ 0 → le_z b here.target ≡ true → in_zone_of here b (Some value) ≡ le_z here.target value
   unfolding in_zone_of past_of
   past-above value none up = rw (eq-eqb here.zone 0 none, up)
 
-  pub past-below : (value : ℤ) → here.zone ≡ 0 → le_z b here.target ≡ false → in_zone_of here b (Whole.Value value) ≡ le_z value here.target
+  pub past-below : (value : ℤ) → here.zone ≡ 0 → le_z b here.target ≡ false → in_zone_of here b (Some value) ≡ le_z value here.target
   unfolding in_zone_of past_of
   past-below value none down = rw (eq-eqb here.zone 0 none, down)
 
@@ -106,7 +104,7 @@ module _ (here : Here) (position : Position) where
   unfolding second_position
   time-first holds before = rw (holds, lt-ltb _ _ before)
 
-  module _ (whole : Whole) where
+  module _ (whole : Option ℤ) where
     -- a step is not left before its time is over
     pub not-early : position.elapsed < here.time → leaves_of here whole position ≡ false
     unfolding leaves_of both
@@ -139,7 +137,7 @@ module _ (here : Here) (position : Position) where
   last-pass before high = rw (le-ltb _ _ before, le-ltb _ _ high)
 
   -- no time passes in a paused run
-  pub paused-rests : (whole : Whole) → position.mode ≡ 2 → tick_position here whole position ≡ position
+  pub paused-rests : (whole : Option ℤ) → position.mode ≡ 2 → tick_position here whole position ≡ position
   unfolding tick_position active either
   paused-rests whole holds = rw holds
 
@@ -177,11 +175,11 @@ unfolding takes_of either
 taken q = (refl, refl, refl, refl, refl, refl, refl, refl)
 
 -- the start choice is not turned round: 0 from the measured whole value, 1 from the start value
-pub from-measured : (settings : Settings) (value : ℤ) → settings.start ≡ 0 → start_base settings (Whole.Value value) ≡ value
+pub from-measured : (settings : Settings) (value : ℤ) → settings.start ≡ 0 → start_base settings (Some value) ≡ value
 unfolding start_base value_of
 from-measured settings value holds = rw (eq-eqb settings.start 0 holds)
 
-pub from-start-value : (settings : Settings) (whole : Whole) → settings.start ≡ 1 → start_base settings whole ≡ settings.initial
+pub from-start-value : (settings : Settings) (whole : Option ℤ) → settings.start ≡ 1 → start_base settings whole ≡ settings.initial
 unfolding start_base
 from-start-value settings whole holds = rw (ne_eqb settings.start 0 (λ same. omega arith))
 
@@ -240,7 +238,7 @@ module _ (here : Here) (position : Position) where
 
 -- ---- return
 
-module _ (settings : Settings) (here : Here) (position : Position) (whole : Whole) where
+module _ (settings : Settings) (here : Here) (position : Position) (whole : Option ℤ) where
   -- no return starts a run that was stopped or ended
   pub idle-stays : active position ≡ false → return_position settings here whole position ≡ position
   unfolding return_position
@@ -269,16 +267,16 @@ module _ (settings : Settings) (here : Here) (position : Position) (whole : Whol
 
 module _ (settings : Settings) (here : Here) (position : Position) where
   -- the width has both its ends, and over, under and no reading are outside it
-  pub width-holds : (value : ℤ) → apart value (set_value_of here position) ≤ settings.width → goes_on settings here (Whole.Value value) position ≡ true
+  pub width-holds : (value : ℤ) → apart value (set_value_of here position) ≤ settings.width → goes_on settings here (Some value) position ≡ true
   unfolding goes_on near_of
   width-holds value near = either-right _ _ (le-leb _ _ near)
 
   pub width-ends : (value : ℤ) → 0 < settings.width → settings.width < apart value (set_value_of here position)
-      → goes_on settings here (Whole.Value value) position ≡ false
+      → goes_on settings here (Some value) position ≡ false
   unfolding goes_on near_of either
   width-ends value some far = rw (ne_eqb settings.width 0 (λ same. omega arith)) (lt-leb _ _ far)
 
-  pub over-waits : 0 < settings.width → goes_on settings here Whole.Nothing position ≡ false
+  pub over-waits : 0 < settings.width → goes_on settings here None position ≡ false
   unfolding goes_on near_of either
   over-waits some = rw (ne_eqb settings.width 0 (λ same. omega arith))
 

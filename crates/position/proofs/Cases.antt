@@ -7,7 +7,6 @@ use borrow.Author.Tests.{ltb-true, ltb-false, eqb-true, eqb-false, leb-true, leb
 use lib.Dec.{eqb, ltb, leb}
 use lib.IntN.{ℤ}
 use Rattle.setting.specs.declared.Settings.{Settings}
-use Rattle.measure.specs.declared.Whole.{Whole}
 use Rattle.position.specs.declared.Position.{Position}
 use Rattle.position.specs.declared.Here.{Here}
 use Rattle.position.specs.Tests.{both, either}
@@ -15,6 +14,7 @@ use Rattle.position.specs.Program.{timed, placed, active, set_value_of, second_p
 use Rattle.position.specs.Command.{with_mode, stop_position, begin_position, start_position, pause_position, feed_position, back_position, plus_position, minus_position}
 use Rattle.position.specs.Return.{goes_on, return_position}
 use Rattle.position.proofs.Tests.{choice}
+use Rattle.std.specs.Prelude.{Option}
 
 module _ (P : Position → Type 0) (here : Here) (position : Position) where
   pub second-cases : (here.endless ≡ true → P (timed position (min (position.elapsed + 1) 359999) position.waited))
@@ -35,7 +35,7 @@ module _ (P : Position → Type 0) (here : Here) (position : Position) where
       choice P (ltb position.step here.count) (λ holds. first (ltb-true _ _ holds))
       (λ _. choice P (ltb position.pass here.limit) (λ holds. second (ltb-true _ _ holds)) (λ _. third))
 
-  pub tick-cases : (whole : Whole)
+  pub tick-cases : (whole : Option ℤ)
       → ((position.mode ≡ 1 → ⊥) → P position)
       → (position.mode ≡ 1 → leaves_of here whole (second_position here position) ≡ true → P (next_position here (second_position here position)))
       → (position.mode ≡ 1 → leaves_of here whole (second_position here position) ≡ false → P (second_position here position))
@@ -83,7 +83,7 @@ module _ (P : Position → Type 0) (here : Here) (position : Position) where
   unfolding pause_position
   pause-cases first second = choice (λ (mode : ℕ). P (with_mode position mode)) (eqb position.mode 1) (λ _. first) (λ _. second)
 
-  pub return-cases : (settings : Settings) (whole : Whole)
+  pub return-cases : (settings : Settings) (whole : Option ℤ)
       → P position → (active position ≡ true → P (stop_position position.pattern)) → (active position ≡ true → P (with_mode position 2))
       → P (return_position settings here whole position)
   unfolding return_position

@@ -8,7 +8,6 @@ use borrow.Author.Tests.{eqb-true, eqb-false, ltb-true, lt-ltb, le-ltb, not-true
 use lib.Dec.{eqb}
 use lib.IntN.{ℤ}
 use Rattle.setting.specs.declared.Settings.{Settings}
-use Rattle.measure.specs.declared.Whole.{Whole}
 use Rattle.position.specs.declared.Position.{Position}
 use Rattle.position.specs.declared.Here.{Here}
 use Rattle.position.specs.declared.Command.{Command}
@@ -21,6 +20,7 @@ use Rattle.position.proofs.Cases.{tick-cases, start-cases, feed-cases, back-case
 use Rattle.position.proofs.Laws.{running-active, active-modes, set-range, second-keeps, plus-keeps, minus-keeps}
 use Rattle.position.proofs.Readable as R
 use Rattle.position.proofs.Stays as S
+use Rattle.std.specs.Prelude.{Option}
 
 -- ---- what a readable position bounds
 
@@ -134,7 +134,7 @@ module _ (settings : Settings) (here there : Here) (position : Position) (holds 
   stay : (other : Position) → other.step ≡ position.step → other.pass ≡ position.pass → readable_of settings here other ≡ true → Stays other
   stay other step pass readable along = subst (λ (at : Here). readable_of settings at other ≡ true) (sym (along.same step pass)) readable
 
-  pub tick-stays : (whole : Whole) → temperature here.target ≡ true → Stays (tick_position here whole position)
+  pub tick-stays : (whole : Option ℤ) → temperature here.target ≡ true → Stays (tick_position here whole position)
   unfolding active
   tick-stays whole aimed =
       let after = second_position here position in
@@ -153,7 +153,7 @@ module _ (settings : Settings) (here there : Here) (position : Position) (holds 
       (S.kept-readable settings here position runs holds after kept
       (S.second-times here whole position (R.times-right settings here position runs holds) not_left)))
 
-  pub return-stays : (whole : Whole) → Stays (return_position settings here whole position)
+  pub return-stays : (whole : Option ℤ) → Stays (return_position settings here whole position)
   unfolding active either
   return-stays whole =
       let pattern = R.readable-pattern settings here position holds in

@@ -9,7 +9,6 @@ use lib.Dec.{eqb}
 use lib.IntN.{ℤ, pos}
 use lib.Signed.{le_z}
 use Rattle.setting.specs.declared.Settings.{Settings}
-use Rattle.measure.specs.declared.Whole.{Whole}
 use Rattle.position.specs.declared.Position.{Position}
 use Rattle.position.specs.declared.Here.{Here}
 use Rattle.position.specs.Tests.{both, either, within, temperature}
@@ -19,6 +18,7 @@ use Rattle.position.specs.Return.{return_position}
 use Rattle.position.proofs.Tests.{either-cases, either_left, both_true, choice}
 use Rattle.position.proofs.SetValue.{le_refl, above, ramp-at-once, ramp-at-end, ramp-within, ramp-within-down, ramp-range}
 use Rattle.position.proofs.Cases.{second-cases, next-cases, tick-cases, start-cases, feed-cases, back-cases, plus-cases, minus-cases, pause-cases, return-cases}
+use Rattle.std.specs.Prelude.{Option}
 
 -- ---- modes 1 and 2
 
@@ -91,7 +91,7 @@ module _ (here : Here) (position : Position) where
   -- ---- what a move leaves
 
   -- a tick outside mode 1 changes nothing
-  pub tick-idle : (whole : Whole) → (position.mode ≡ 1 → ⊥) → tick_position here whole position ≡ position
+  pub tick-idle : (whole : Option ℤ) → (position.mode ≡ 1 → ⊥) → tick_position here whole position ≡ position
   unfolding tick_position
   tick-idle whole holds = rw (ne_eqb position.mode 1 holds)
 
@@ -113,14 +113,14 @@ module _ (here : Here) (position : Position) where
   pause-keeps = pause-cases (λ (other : Position). other ≡ with_mode position other.mode) here position refl refl
 
   -- so of a tick only next changes the step
-  pub tick-step : (whole : Whole)
+  pub tick-step : (whole : Option ℤ)
       → (tick_position here whole position ≡ next_position here (second_position here position)) ⊎ ((tick_position here whole position).step ≡ position.step)
   tick-step whole =
       tick-cases (λ (other : Position). (other ≡ next_position here (second_position here position)) ⊎ (other.step ≡ position.step)) here position whole
       (λ _. inr refl) (λ _ _. inl refl) (λ _ _. inr (ap (λ (other : Position). other.step) second-keeps))
 
   -- a return keeps the step or goes to stopped
-  pub return-step : (settings : Settings) (whole : Whole)
+  pub return-step : (settings : Settings) (whole : Option ℤ)
       → (return_position settings here whole position ≡ stop_position position.pattern) ⊎ ((return_position settings here whole position).step ≡ position.step)
   return-step settings whole =
       return-cases (λ (other : Position). (other ≡ stop_position position.pattern) ⊎ (other.step ≡ position.step)) here position settings whole
@@ -134,7 +134,7 @@ pub next-pattern : (here : Here) (position : Position) → SamePattern position 
 next-pattern here position = next-cases (SamePattern position) here position (λ _. refl) (λ _. refl) refl
 
 module _ (here : Here) (position : Position) where
-  pub tick-pattern : (whole : Whole) → SamePattern position (tick_position here whole position)
+  pub tick-pattern : (whole : Option ℤ) → SamePattern position (tick_position here whole position)
   tick-pattern whole =
       let holds : SamePattern position (second_position here position) = ap (λ (other : Position). other.pattern) (second-keeps here position) in
       tick-cases (SamePattern position) here position whole (λ _. refl) (λ _ _. next-pattern here (second_position here position) ∙ holds) (λ _ _. holds)
@@ -157,5 +157,5 @@ module _ (here : Here) (position : Position) where
   pub pause-pattern : SamePattern position (pause_position position)
   pause-pattern = ap (λ (other : Position). other.pattern) (pause-keeps here position)
 
-  pub return-pattern : (settings : Settings) (whole : Whole) → SamePattern position (return_position settings here whole position)
+  pub return-pattern : (settings : Settings) (whole : Option ℤ) → SamePattern position (return_position settings here whole position)
   return-pattern settings whole = return-cases (SamePattern position) here position settings whole refl (λ _. refl) (λ _. refl)

@@ -1,7 +1,6 @@
 -- The laws of a position.
 pub mod Tests
 pub mod Raised
-pub mod Numbered
 pub mod SetValue
 pub mod Cases
 pub mod Laws

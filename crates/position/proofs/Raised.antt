@@ -53,12 +53,6 @@ raised-neg : (size : ℕ) → size < 32768 → raised (negsuc size) ≡ 32767 - 
 unfolding raised
 raised-neg size holds = rw (sub-ge 32768 (suc size) (omega arith)) (omega arith)
 
--- it is no less than 0
-pub raised_is : (value : ℤ) → SFits w16 value → value +ℤ pos 32768 ≡ pos (raised value)
-unfolding raised
-raised_is (pos size) holds = refl
-raised_is (negsuc size) holds = rw (sub-ge 32768 (suc size) (omega arith))
-
 pub raised_lt : (value : ℤ) → SFits w16 value → raised value < 65536
 raised_lt (pos size) holds = rw (raised-pos size) (omega arith)
 raised_lt (negsuc size) holds = rw (raised-neg size (omega arith)) (omega arith)
@@ -105,9 +99,6 @@ apart-raised (pos more) (negsuc size) holds also = rw (raised-pos more, raised-n
 apart-raised (negsuc more) (pos zero) holds also = rw (raised-neg more (omega arith), raised-pos 0) (abs-sub 0 (suc more) ∙ omega arith)
 apart-raised (negsuc more) (pos (suc size)) holds also = rw (raised-neg more (omega arith), raised-pos (suc size)) (omega arith)
 apart-raised (negsuc more) (negsuc size) holds also = rw (raised-neg more (omega arith), raised-neg size (omega arith)) (abs-sub (suc size) (suc more) ∙ omega arith)
-
-pub apart-lt : (one other : ℤ) → SFits w16 one → SFits w16 other → apart one other < 65536
-apart-lt one other holds also = rw (apart-raised one other holds also) (omega (arith, raised_lt one holds, raised_lt other also))
 
 pub up : (value : ℤ) (more : ℕ) → SFits w16 value → value +ℤ pos more ≡ lowered (raised value + more)
 up (pos size) more holds =

@@ -7,7 +7,6 @@ use native.Mathlib.Omega.{arith}
 use borrow.Author.Tests.{le-leb, leb-false, eq-eqb, eqb-true, eqb-false}
 use lib.Dec.{eqb, leb}
 use Rattle.setting.specs.declared.Settings.{Settings}
-use Rattle.measure.specs.declared.Whole.{Whole}
 use Rattle.position.specs.declared.Position.{Position}
 use Rattle.position.specs.declared.Here.{Here}
 use Rattle.position.specs.Tests.{both, temperature, within, zero_z}
@@ -19,6 +18,8 @@ use Rattle.position.proofs.Cases.{second-cases, next-cases}
 use Rattle.position.proofs.Laws.{active-modes, set-range}
 use Rattle.position.proofs.Readable as R
 use Rattle.position.proofs.Readable.{Early, Placed}
+use Rattle.std.specs.Prelude.{Option}
+use lib.IntN.{ℤ}
 
 -- ---- e = w = 0
 
@@ -109,7 +110,7 @@ module _ (here : Here) (position : Position) (ends : here.endless ≡ false) whe
   waiting right low = ⊎_elim (λ timely. absurd (omega (arith, timely.no-wait, low))) (λ late. late.in-wait) (R.times-cases here position right)
 
   -- a step that is not left at the end of its time still waits
-  pub not_left : (whole : Whole) → position.elapsed ≡ here.time → leaves_of here whole position ≡ false → position.waited < here.wait
+  pub not_left : (whole : Option ℤ) → position.elapsed ≡ here.time → leaves_of here whole position ≡ false → position.waited < here.wait
   unfolding leaves_of
   not_left whole over stays =
       let tests = both_false _ _ (ap not ends) stays in
@@ -136,7 +137,7 @@ module _ (here : Here) (position : Position) (ends : here.endless ≡ false) whe
           })
 
 -- a second of a step that is not left after it
-pub second-times : (here : Here) (whole : Whole) (position : Position) → times_right here position ≡ true
+pub second-times : (here : Here) (whole : Option ℤ) (position : Position) → times_right here position ≡ true
     → leaves_of here whole (second_position here position) ≡ false → times_right here (second_position here position) ≡ true
 second-times here whole position right =
     second-cases (λ (other : Position). leaves_of here whole other ≡ false → times_right here other ≡ true) here position

@@ -13,10 +13,6 @@ unfolding either
 either-or true second = refl
 either-or false second = refl
 
-pub or_left : (first second : Bool) → (first || second) ≡ false → first ≡ false
-or_left true second holds = holds
-or_left false second holds = refl
-
 pub both_true : (first second : Bool) → first ≡ true → second ≡ true → both first second ≡ true
 unfolding both
 both_true true second holds also = also

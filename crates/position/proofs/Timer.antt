@@ -12,7 +12,6 @@ use lib.IntN.{ℤ, nat_abs, ◌+ℤ◌, ◌-ℤ◌, +ℤ_invr, -ℤ-+ℤ_cancel,
 use Rattle.setting.specs.declared.Settings.{Settings}
 use Rattle.bank.specs.declared.Place.{Place}
 use Rattle.bank.specs.View.{place_of}
-use Rattle.measure.specs.declared.Whole.{Whole}
 use Rattle.position.specs.declared.Position.{Position}
 use Rattle.position.specs.declared.Here.{Here}
 use Rattle.position.specs.Tests.{either, all, zero_z, same_z, numbered}
@@ -23,6 +22,7 @@ use Rattle.position.proofs.Tests.{both_left, both_right, both_true}
 use Rattle.position.proofs.Laws.{set-timer}
 use Rattle.position.proofs.Readable as R
 use Rattle.position.proofs.Against.{no-wait, plus-waits}
+use Rattle.std.specs.Prelude.{Option}
 
 -- ---- two temperatures are the same
 
@@ -127,7 +127,7 @@ module _ (settings : Settings) (place : Place) (position : Position)
   timer-shows runs = set-timer here position runs timer
 
   -- it is left at the end of its time, whatever is measured: no zone is waited for
-  pub timer-leaves : (whole : Whole) → here.endless ≡ false → position.elapsed ≡ here.time → leaves_of here whole position ≡ true
+  pub timer-leaves : (whole : Option ℤ) → here.endless ≡ false → position.elapsed ≡ here.time → leaves_of here whole position ≡ true
   timer-leaves whole ends over = no-wait here position whole ends over (timer-waits settings place position.step position.pass timer).0
 
   -- step 2 begins from b

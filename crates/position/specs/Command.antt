@@ -1,8 +1,7 @@
 -- The table of commands: the modes that take each, and what it makes of a position.
 -- Assumes nothing.
-use Rattle.std.specs.Prelude.{ℕ, ◌+◌, ◌-◌, Bool, true, false, cond, not, eqb, leb, ltb, ℤ, pos, nat_abs}
+use Rattle.std.specs.Prelude.{ℕ, ◌+◌, ◌-◌, Bool, true, false, cond, not, eqb, leb, ltb, ℤ, pos, nat_abs, Option, None, Some}
 use Rattle.setting.specs.declared.Settings.{Settings}
-use Rattle.measure.specs.declared.Whole.{Whole}
 use Rattle.position.specs.declared.Position.{Position}
 use Rattle.position.specs.declared.Here.{Here}
 use Rattle.position.specs.declared.Command.{Command}
@@ -75,20 +74,20 @@ start_position settings first position b =
     (cond (ltb 1 first.count) (begin_position position 2 b) (end_position (begin_position position 1 b)))
 
 -- whether there is a filtered value, and its measured whole value
-unfoldable pub is_value : Whole → Bool
-is_value Whole.Nothing = false
-is_value (Whole.Value value) = true
+unfoldable pub is_value : Option ℤ → Bool
+is_value None = false
+is_value (Some value) = true
 
-unfoldable pub value_of : Whole → ℤ
-value_of Whole.Nothing = pos 0
-value_of (Whole.Value value) = value
+unfoldable pub value_of : Option ℤ → ℤ
+value_of None = pos 0
+value_of (Some value) = value
 
 -- b at a start: the measured whole value or the start value by the start choice
-unfoldable pub start_base : Settings → Whole → ℤ
+unfoldable pub start_base : Settings → Option ℤ → ℤ
 start_base settings whole = cond (eqb settings.start 0) (value_of whole) settings.initial
 
 -- 29, start choice 0, no filtered value
-unfoldable pub lacks_value : Settings → Whole → Bool
+unfoldable pub lacks_value : Settings → Option ℤ → Bool
 lacks_value settings whole = both (eqb settings.start 0) (not (is_value whole))
 
 -- pause swaps 1 and 2
@@ -145,7 +144,7 @@ stuck_of here position Command.Minus = not (minus_moves here position)
 -- ---- what each command does, where it is not refused
 
 -- `first` as above
-unfoldable pub command_position : Settings → Here → Here → Whole → Position → Command → Position
+unfoldable pub command_position : Settings → Here → Here → Option ℤ → Position → Command → Position
 command_position settings here first whole position (Command.Select q) = stop_position (nat_abs q)
 command_position settings here first whole position Command.Start = start_position settings first position (start_base settings whole)
 command_position settings here first whole position Command.Pause = pause_position position

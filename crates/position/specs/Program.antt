@@ -1,11 +1,10 @@
 -- The plain machine's position: its set value and signals, and what a second and next make of it, over what a bank says there.
 -- Assumes nothing.
-use Rattle.std.specs.Prelude.{ℕ, ◌+◌, ◌*◌, ◌/◌, min, Bool, false, cond, not, List, [], ◌∷◌, eqb, leb, ltb, ℤ, pos, ◌+ℤ◌, ◌-ℤ◌, get_or}
+use Rattle.std.specs.Prelude.{ℕ, ◌+◌, ◌*◌, ◌/◌, min, Bool, false, cond, not, List, [], ◌∷◌, eqb, leb, ltb, ℤ, pos, ◌+ℤ◌, ◌-ℤ◌, get_or, Option, None, Some}
 use Rattle.std.specs.Int.Signed.{le_z}
 use Rattle.setting.specs.declared.Settings.{Settings}
 use Rattle.bank.specs.declared.Place.{Place}
 use Rattle.bank.specs.View.{place_of}
-use Rattle.measure.specs.declared.Whole.{Whole}
 use Rattle.position.specs.declared.Position.{Position}
 use Rattle.position.specs.declared.Here.{Here}
 use Rattle.position.specs.declared.Signals.{Signals}
@@ -111,17 +110,17 @@ set_value_of here position =
 -- ---- a second of a running step
 
 -- a measured whole value within a width of a temperature; needs a filtered value
-unfoldable pub near_of : ℕ → ℤ → Whole → Bool
-near_of width about Whole.Nothing = false
-near_of width about (Whole.Value value) = leb (apart value about) width
+unfoldable pub near_of : ℕ → ℤ → Option ℤ → Bool
+near_of width about None = false
+near_of width about (Some value) = leb (apart value about) width
 
 -- at or past the target seen from b: above counts if b ≤ target, below otherwise; needs a filtered value
-unfoldable pub past_of : ℤ → ℤ → Whole → Bool
-past_of b target Whole.Nothing = false
-past_of b target (Whole.Value value) = cond (le_z b target) (le_z target value) (le_z value target)
+unfoldable pub past_of : ℤ → ℤ → Option ℤ → Bool
+past_of b target None = false
+past_of b target (Some value) = cond (le_z b target) (le_z target value) (le_z value target)
 
 -- in zone: within the zone of the target; for zone 0, at or past the target seen from b
-unfoldable pub in_zone_of : Here → ℤ → Whole → Bool
+unfoldable pub in_zone_of : Here → ℤ → Option ℤ → Bool
 in_zone_of here b whole = cond (eqb here.zone 0) (past_of b here.target whole) (near_of here.zone here.target whole)
 
 -- an endless step adds 1 to e, held at 359,999; else e gains 1 if e < T, otherwise w gains 1. Where w < W, which every readable position
@@ -133,7 +132,7 @@ second_position here position =
     (timed position position.elapsed (min (position.waited + 1) 4294967295)))
 
 -- then, if e = T and (wait number 0, or in zone, or w ≥ W), go to next. An endless step is never left so
-unfoldable pub leaves_of : Here → Whole → Position → Bool
+unfoldable pub leaves_of : Here → Option ℤ → Position → Bool
 leaves_of here whole position =
     both (not here.endless)
     (both (eqb position.elapsed here.time)
@@ -163,7 +162,7 @@ next_position here position =
     (end_position position))
 
 -- the position's part of a tick: in mode 1 a second of the step, and then perhaps next
-unfoldable pub tick_position : Here → Whole → Position → Position
+unfoldable pub tick_position : Here → Option ℤ → Position → Position
 tick_position here whole position =
     let after = second_position here position in
     cond (eqb position.mode 1) (cond (leaves_of here whole after) (next_position here after) after) position

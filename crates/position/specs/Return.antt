@@ -1,8 +1,7 @@
 -- What the choices of a return make of a position, and which positions are readable.
 -- Assumes nothing.
-use Rattle.std.specs.Prelude.{Bool, cond, not, eqb, leb, ltb}
+use Rattle.std.specs.Prelude.{Bool, cond, not, eqb, leb, ltb, Option, ℤ}
 use Rattle.setting.specs.declared.Settings.{Settings}
-use Rattle.measure.specs.declared.Whole.{Whole}
 use Rattle.position.specs.declared.Position.{Position}
 use Rattle.position.specs.declared.Here.{Here}
 use Rattle.position.specs.Tests.{both, either, temperature, zero_z}
@@ -12,13 +11,13 @@ use Rattle.position.specs.Command.{with_mode, stop_position}
 -- ---- return
 
 -- choice 2: the width is 0, or the measured whole value is within the width of the restored set value; over and under are not
-unfoldable pub goes_on : Settings → Here → Whole → Position → Bool
+unfoldable pub goes_on : Settings → Here → Option ℤ → Position → Bool
 goes_on settings here whole position =
     either (eqb settings.width 0) (near_of settings.width (set_value_of here position) whole)
 
 -- mode 0 and 3 stay. Choice 0: to stopped. Choice 1: running becomes paused. Choice 2: running stays running if it goes on, else paused;
 -- paused stays
-unfoldable pub return_position : Settings → Here → Whole → Position → Position
+unfoldable pub return_position : Settings → Here → Option ℤ → Position → Position
 return_position settings here whole position =
     cond (not (active position)) position
     (cond (eqb settings.outage 0) (stop_position position.pattern)

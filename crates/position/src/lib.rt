@@ -4,7 +4,7 @@
 // Where a run stands.
 #[derive(Clone, Copy)]
 pub struct Position {
-    pub mode: u8, // 0 stopped, 1 running, 2 paused, 3 ended
+    pub mode: u8, // 0 stopped, 1 running, 2 paused, 3 ended; a number, since one out of range has a refusal, 21 or 31
     pub pattern: u8, // p
     pub step: u8, // k
     pub pass: u16, // r
@@ -28,7 +28,7 @@ pub struct Here {
     pub limit: u16, // of passes
 }
 
-// The four time signals, on or off.
+// The four time signals, on or off, as fields and no array: definitions and theorems (`signals_of`, `numbers_of`) name each.
 #[derive(Clone, Copy)]
 pub struct Signals {
     pub first: bool,

@@ -7,31 +7,32 @@ use position::{Here, Position, Shown, Signals};
 use setting::Settings;
 
 // Whether a time signal of number j is on.
+#[tactic(auto, unfolding(position::specs::Tests::both, position::specs::Tests::either, position::specs::Program::active, position::specs::Program::signal_of))]
 fn on(settings: Settings, position: Position, j: u8) -> bool
     ensures { result ≡ signal_of settings position j }
 {
-    let ons = settings.on;
-    let offs = settings.off;
     let minute = position.elapsed / 60;
-    let while_on = (entry(ons, j) as u32 <= minute) & (minute < entry(offs, j) as u32);
-    let is_active = (position.mode == 1) | (position.mode == 2);
-    is_active & ((j == 5) | while_on)
+    let while_on = (entry(settings.on, j) as u32 <= minute)
+        & (minute < entry(settings.off, j) as u32);
+    matches!(position.mode, 1 | 2) & ((j == 5) | while_on)
 }
 
 // The four time signals.
+#[tactic(auto, unfolding(position::specs::Program::signals_of))]
 fn signals(settings: Settings, here: Here, position: Position) -> Signals
     ensures { result ≡ signals_of settings here position }
 {
-    let js = here.signals;
+    let [first, second, third, fourth] = here.signals.map(|j| on(settings, position, j));
     Signals {
-        first: on(settings, position, js[0]),
-        second: on(settings, position, js[1]),
-        third: on(settings, position, js[2]),
-        fourth: on(settings, position, js[3]),
+        first,
+        second,
+        third,
+        fourth,
     }
 }
 
 // The set value and the signals.
+#[tactic(auto, unfolding(position::specs::Program::shown_of))]
 pub fn shown(settings: Settings, here: Here, position: Position) -> Shown
     ensures { result ≡ shown_of settings here position }
 {

@@ -1,51 +1,21 @@
 // An accepted bank's patterns, copied into arrays by what the bank says of each place.
-ghost use Rattle.std.specs.Prelude.{◌≡◌, ◌+◌, ◌≤◌};
-ghost use Rattle.std.proofs.lemmas.List.Edits.{sets};
-ghost use Rattle.bank.specs.View.{no_step, step_of, patterns_of};
+ghost use Rattle.std.specs.Prelude.{◌≡◌, ◌≤◌, length};
+ghost use Rattle.bank.specs.View.{step_of, patterns_of};
 ghost use Rattle.field.specs.Tab.{tab};
-ghost use Rattle.arrays.specs.Read.{laid_out, refused_as};
+ghost use Rattle.arrays.specs.Read.{laid_out};
 ghost use Rattle.reader.specs.Asked.{Counted};
 
-use arrays::{Bank, Patterns};
+use arrays::Patterns;
 use bank::{Step, place_of};
-use setting::Checked;
 
-// The step that stands where there is none.
-fn no_step() -> Step
-    ensures { result ≡ no_step }
+// The first steps of pattern p, as many as there is room for.
+fn copy_steps(out: &mut [Step], bank: &[u8], p: u8)
+    requires { length out.old ≤ 99 }
+    ensures { out.new ≡ tab (step_of bank.now p) 1 1 (length out.old) }
 {
-    bank::step_at(b"", 0)
-}
-
-// A refusal, and nothing.
-pub fn refused(found: Checked) -> Bank
-    ensures { result ≡ refused_as found }
-{
-    let none = no_step();
-    Bank {
-        found,
-        settings: setting::read_settings(b""),
-        patterns: Patterns {
-            runs: [0; 15],
-            counts: [0; 15],
-            steps: [none; 99],
-        },
+    for (k, step) in out.iter_mut().enumerate() {
+        *step = place_of(bank, p, k as u8 + 1).step;
     }
-}
-
-// The s steps of pattern p, copied to place base.
-fn with_steps(steps: [Step; 99], base: usize, bank: &[u8], p: u8, s: u8) -> [Step; 99]
-    requires { base + s ≤ 99 }
-    ensures { result ≡ sets steps base (tab (step_of bank.now p) 1 1 s) }
-{
-    let mut out = steps;
-    let mut k: u8 = 0;
-    while k < s {
-        let x = place_of(bank, p, k + 1).step;
-        out[base + k as usize] = x;
-        k += 1;
-    }
-    out
 }
 
 // The n patterns of an accepted bank.
@@ -53,21 +23,23 @@ pub fn patterns(bank: &[u8], n: u8) -> Patterns
     requires { Counted bank.now n }
     ensures { result ≡ laid_out (patterns_of bank.now) }
 {
-    let none = no_step();
+    let none = Step {
+        target: 0,
+        minutes: 0,
+        wait: 0,
+        signals: [0; 4],
+    };
     let mut runs = [0u8; 15];
     let mut counts = [0u8; 15];
     let mut steps = [none; 99];
     let mut base: usize = 0;
-    let mut p: u8 = 0;
-    while p < n {
-        let i = p as usize;
+    for p in 0..n {
         let place = place_of(bank, p + 1, 0);
-        runs[i] = place.runs;
-        counts[i] = place.count;
-        let more = with_steps(steps, base, bank, p + 1, place.count);
-        steps = more;
-        base += place.count as usize;
-        p += 1;
+        let next = base + place.count as usize;
+        runs[p as usize] = place.runs;
+        counts[p as usize] = place.count;
+        copy_steps(&mut steps[base..next], bank, p + 1);
+        base = next;
     }
     Patterns {
         runs,

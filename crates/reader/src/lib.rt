@@ -4,25 +4,18 @@
 ghost use Rattle.std.specs.Prelude.{◌≡◌};
 ghost use Rattle.arrays.specs.Read.{given, read_of};
 
-use crate::copy::{patterns, refused};
+use crate::copy::patterns;
 use arrays::Bank;
-use setting::Checked;
+use setting::BankRefusal;
 
 mod copy;
 
-// A bank read: its settings and patterns, or its refusal and nothing.
-pub fn read(bank: &[u8]) -> Bank
+// A bank read: its settings and patterns, or its refusal.
+pub fn read(bank: &[u8]) -> Result<Bank, BankRefusal>
     ensures { given result ≡ given (read_of bank.now) }
 {
-    let found = bank::check(bank);
-    let Checked::Accepted = found else {
-        return refused(found);
-    };
+    bank::check(bank)?;
     let settings = setting::read_settings(bank);
     let patterns = patterns(bank, settings.patterns);
-    Bank {
-        found,
-        settings,
-        patterns,
-    }
+    Ok(Bank { settings, patterns })
 }

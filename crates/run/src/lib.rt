@@ -9,7 +9,8 @@ use measure::Measured;
 use plain::Run;
 use position::Position;
 
-// The run of a state with power off, all zeros.
+// The run of a state with power off, all zeros. Written out: a derived Default would be needed on three types of other crates for this place alone.
+#[tactic(auto, unfolding(plain::specs::Event::dark_run))]
 pub fn dark_run() -> Run
     ensures { result ≡ dark_run }
 {
@@ -35,23 +36,16 @@ pub fn dark_run() -> Run
     }
 }
 
-// The place of the credit of step k, which counts from 1.
+// The place of the credit of step k, which counts from 1; 0 where there is no step.
 pub fn place_of(k: u8) -> usize
     ensures { result ≡ k - 1 }
 {
-    if k == 0 {
-        return 0; // no step
-    }
-    k as usize - 1
+    k.saturating_sub(1) as usize
 }
 
 // One more, held at 4,294,967,295.
 pub fn one_more(credit: u32) -> u32
     ensures { result ≡ min (credit + 1) 4294967295 }
 {
-    if credit < 4294967295 {
-        credit + 1
-    } else {
-        4294967295
-    }
+    credit.saturating_add(1)
 }

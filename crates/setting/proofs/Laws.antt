@@ -6,24 +6,28 @@ use lib.IntN.{ℤ}
 use mir.Syntax.{w16}
 use mir.Val.{SFits, to_z, of_z}
 use lib.Signed.{mag}
-use Prim.Native.Nat.{ℕ, ◌<◌, ◌≤◌}
+use Prim.Native.Nat.{ℕ, suc, ◌+◌, ◌<◌, ◌≤◌}
 use lib.Dec.{leb, eqb}
-use lib.ListN.{get_or}
+use native.Mathlib.Numerals.{add-one}
+use lib.ListN.{length, get_or, drop, drop_of_length-le}
+use lib.Seq.{drop-cons}
 use mir.Facts.{to_z-of_z}
 use Rattle.limits.specs.Range.{between, within}
 pub use Rattle.limits.proofs.Laws.{on, off, both-and, both_left, both_right}
 use Rattle.setting.specs.Found.{is_accepted, unless, test, then, numbers_of}
-use Rattle.setting.specs.Setting.{first_of, head_found, settings_found}
+use Rattle.setting.specs.Setting.{first_of, head_found, halves_found, settings_found}
 use Rattle.setting.specs.declared.Settings.{Settings}
-use Rattle.setting.specs.declared.Checked.{Checked}
-use Rattle.setting.specs.declared.Checked.TheVariants.{Accepted, Short, Setting, Pair, Body}
+use Rattle.setting.specs.declared.BankRefusal.{BankRefusal}
+use Rattle.setting.specs.declared.BankRefusal.TheVariants.{Short, Setting, Pair, Body}
+use mathlib.Core.Logic.{◌⊎◌, inl, inr}
 use mathlib.Core.List.{List, [], ◌∷◌}
-use mathlib.Core.Logic.{⊎_elim}
 use native.Mathlib.Omega.{arith}
-use denote.Enum.Declared.{tag_of}
-use types.Run.{OneOf}
-use Rattle.setting.specs.contracts.Checked.{the_type}
 use borrow.Author.Tests.{not-true, not-false, leb-true, le-leb}
+use Rattle.std.specs.Prelude.{Result, Ok, Err}
+use Rattle.std.specs.Result.{IsErrAnd}
+use Rattle.std.proofs.lemmas.Result.{err_from_is_err_and}
+use Rattle.setting.specs.Found.{Checked}
+use Rattle.setting.specs.Found.{Accepted}
 
 -- `if !f(..)`: what the call ensures of its result, and what the test says of it
 pub refused : {result t : Bool} → result ≡ t → not result ≡ true → t ≡ false
@@ -49,45 +53,30 @@ pub wrong : {a : Bool} {refusal : Checked} (rest : Checked) → a ≡ false → 
 unfolding test
 wrong rest same = rw same
 
--- what is not accepted is refused
+-- what is not accepted is a refusal
 pub is-accepted : (found : Checked) → is_accepted found ≡ true → found ≡ Accepted
-is-accepted Accepted same = refl
-is-accepted Short same = absurd (false≢true same)
-is-accepted (Setting o) same = absurd (false≢true same)
-is-accepted (Pair i) same = absurd (false≢true same)
-is-accepted (Body p k) same = absurd (false≢true same)
+is-accepted (Ok done) same = refl
+is-accepted (Err refusal) same = absurd (false≢true same)
 
 pub not-accepted : (found : Checked) → is_accepted found ≡ false → found ≡ Accepted → ⊥
 not-accepted found same h = true≢false (sym (ap is_accepted h) ∙ same)
 
--- a `match` knows of an enum in an arm that its tag is one of the arm's
-pub is-refused : (found : Checked) → OneOf (1 ∷ 2 ∷ 3 ∷ 4 ∷ []) (tag_of the_type found) → is_accepted found ≡ false
-is-refused Accepted h = absurd (⊎_elim (λ same. omega arith) (⊎_elim (λ same. omega arith) (⊎_elim (λ same. omega arith) (λ same. omega arith))) h)
-is-refused Short h = refl
-is-refused (Setting o) h = refl
-is-refused (Pair i) h = refl
-is-refused (Body p k) h = refl
+pub unless-accepted : {A : Type 0} {found : Checked} (wrong : BankRefusal → A) (rest : A) → found ≡ Accepted → unless found wrong rest ≡ rest
+unless-accepted wrong rest same = ap (λ (x : Checked). unless x wrong rest) same
 
-pub accepted : (found : Checked) → OneOf (0 ∷ []) (tag_of the_type found) → found ≡ Accepted
-accepted Accepted h = refl
-accepted Short h = absurd (omega arith)
-accepted (Setting o) h = absurd (omega arith)
-accepted (Pair i) h = absurd (omega arith)
-accepted (Body p k) h = absurd (omega arith)
+pub unless-refused : {A : Type 0} {found : Checked} {refusal : BankRefusal} (wrong : BankRefusal → A) (rest : A) → found ≡ Err refusal
+    → unless found wrong rest ≡ wrong refusal
+unless-refused wrong rest same = ap (λ (x : Checked). unless x wrong rest) same
 
-pub unless-accepted : {A : Type 0} {found : Checked} (refusal : Checked → A) (rest : A) → found ≡ Accepted → unless found refusal rest ≡ rest
-unless-accepted {found} refusal rest same = ap (λ (t : Bool). cond t rest (refusal found)) (ap is_accepted same)
-
-pub unless-refused : {A : Type 0} {found : Checked} (refusal : Checked → A) (rest : A) → is_accepted found ≡ false → unless found refusal rest ≡ refusal found
-unless-refused {found} refusal rest same = ap (λ (t : Bool). cond t rest (refusal found)) same
-
--- by the arm of a `match` that is not Accepted's
-pub unless-told : {A : Type 0} (found : Checked) (refusal : Checked → A) (rest : A) → OneOf (1 ∷ 2 ∷ 3 ∷ 4 ∷ []) (tag_of the_type found) → unless found refusal rest ≡ refusal found
-unless-told found refusal rest h = unless-refused refusal rest (is-refused found h)
+-- to show something of what is made of a check, show it where nothing is wrong and for each refusal
+pub unless-cases : {A : Type 0} (P : A → Type 0) (found : Checked) {wrong : BankRefusal → A} {rest : A} → (found ≡ Accepted → P rest)
+    → ((refusal : BankRefusal) → found ≡ Err refusal → P (wrong refusal)) → P (unless found wrong rest)
+unless-cases P (Ok done) right refused = right refl
+unless-cases P (Err refusal) right refused = refused refusal refl
 
 pub next : {found rest : Checked} → found ≡ Accepted → then found rest ≡ rest
 unfolding then
-next {found} {rest} same = unless-accepted (λ f. f) rest same
+next {found} {rest} same = unless-accepted Err rest same
 
 -- what is found first, by another name
 pub first-is : {found found' : Checked} (rest : Checked) → found ≡ found' → then found rest ≡ then found' rest
@@ -95,22 +84,23 @@ first-is rest same = ap (λ (x : Checked). then x rest) same
 
 pub then-holds : (found rest : Checked) → then found rest ≡ Accepted → (found ≡ Accepted) × (rest ≡ Accepted)
 unfolding then
-then-holds found rest same = go (is_accepted found) refl
-  where
-    go : (t : Bool) → is_accepted found ≡ t → (found ≡ Accepted) × (rest ≡ Accepted)
-    go true h = let a = is-accepted found h in (a, sym (next a) ∙ same)
-    go false h = absurd (not-accepted found h (sym (unless-refused (λ f. f) rest h) ∙ same))
+then-holds (Ok done) rest same = (refl, same)
+then-holds (Err refusal) rest same = absurd (true≢false (sym (ap is_accepted same)))
 
 -- a callee's answer ends the chain, or lets it go on
-pub ends : {found found' : Checked} (rest : Checked) → found ≡ found' → OneOf (1 ∷ 2 ∷ 3 ∷ 4 ∷ []) (tag_of the_type found) → then found' rest ≡ found
+pub ends : {found found' : Checked} {refusal : BankRefusal} (rest : Checked) → found ≡ found' → found ≡ Err refusal → then found' rest ≡ Err refusal
 unfolding then
-ends {found} rest same h = ap (λ (x : Checked). then x rest) (sym same) ∙ unless-told found (λ f. f) rest h
+ends rest same h = unless-refused Err rest (sym same ∙ h)
 
-pub goes : {found found' rest : Checked} → found ≡ found' → OneOf (0 ∷ []) (tag_of the_type found) → then found' rest ≡ rest
-goes {found} same h = next (sym same ∙ accepted found h)
+pub goes : {found found' rest : Checked} → found ≡ found' → found ≡ Accepted → then found' rest ≡ rest
+goes same h = next (sym same ∙ h)
+
+-- what the exit of a `?` returns: the error of the call, in the `Result` of the function
+pub exit-returns : {A B E : Type 0} {found : Result A E} {error : E} (result : Result B E) → found ≡ Err error → IsErrAnd result (λ y. y ≡ error) → result ≡ Err error
+exit-returns result was left = let p = err_from_is_err_and result left in p.1 ∙ ap Err p.2
 
 -- a chain of settings, one at a time
-first-kept : (o : ℕ) (xs : List (ℕ × Bool)) → first_of (Setting o) xs ≡ Setting o
+first-kept : (o : ℕ) (xs : List (ℕ × Bool)) → first_of (Err (Setting o)) xs ≡ Err (Setting o)
 unfolding first_of then
 first-kept o [] = refl
 first-kept o (x ∷ xs) = first-kept o xs
@@ -119,15 +109,40 @@ pub first_on : (o : ℕ) (xs : List (ℕ × Bool)) {t : Bool} → t ≡ true →
 unfolding first_of then test
 first_on o xs same = rw same
 
-pub first_off : (o : ℕ) (xs : List (ℕ × Bool)) {t : Bool} → t ≡ false → first_of Accepted ((o, t) ∷ xs) ≡ Setting o
+pub first_off : (o : ℕ) (xs : List (ℕ × Bool)) {t : Bool} → t ≡ false → first_of Accepted ((o, t) ∷ xs) ≡ Err (Setting o)
 unfolding first_of then test
 first_off o xs same = rw same (first-kept o xs)
+
+-- the rows from one on: one that is right goes on, one that is wrong is what is found, and after the last nothing is wrong
+pub rows-on : (rows : List (ℕ × Bool)) (i : ℕ) → i < length rows → (get_or rows i (0, false)).1 ≡ true → first_of Accepted (drop i rows) ≡ first_of Accepted (drop (i + 1) rows)
+rows-on rows i h same = rw (drop-cons rows i (0, false) h, add-one) (first_on _ (drop (suc i) rows) same)
+
+pub rows-off : (rows : List (ℕ × Bool)) (i : ℕ) → i < length rows → (get_or rows i (0, false)).1 ≡ false
+    → first_of Accepted (drop i rows) ≡ Err (Setting (get_or rows i (0, false)).0)
+rows-off rows i h same = rw (drop-cons rows i (0, false) h) (first_off _ (drop (suc i) rows) same)
+
+pub rows-end : (rows : List (ℕ × Bool)) (i : ℕ) → length rows ≤ i → first_of Accepted (drop i rows) ≡ Accepted
+unfolding first_of
+rows-end rows i h = ap (first_of Accepted) (drop_of_length-le rows h)
+
+-- pairs of settings, one at a time
+pub halves-more : (top top' at : ℕ) {l l' xs ys : List ℕ} {x y : ℕ} → l ≡ x ∷ xs → l' ≡ y ∷ ys
+    → halves_found top top' at l l' ≡ test (leb x top) (Err (Setting at)) (test (leb y top') (Err (Setting (at + 2))) (halves_found top top' (at + 4) xs ys))
+unfolding halves_found
+halves-more top top' at same same' = λ i. halves_found top top' at (same i) (same' i)
+
+pub halves-end : (top top' at : ℕ) (xs ys : List ℕ) → (xs ≡ []) ⊎ (ys ≡ []) → halves_found top top' at xs ys ≡ Accepted
+unfolding halves_found
+halves-end top top' at [] ys h = refl
+halves-end top top' at (x ∷ xs) [] h = refl
+halves-end top top' at (x ∷ xs) (y ∷ ys) (inl same) = cc
+halves-end top top' at (x ∷ xs) (y ∷ ys) (inr same) = cc
 
 pub to : (x top : ℕ) {t : Bool} → leb x top ≡ t → between 0 x top ≡ t
 unfolding between
 to x top same = on (le-leb 0 x (omega arith)) ∙ same
 
-pub stop : (p k : ℕ) (rest : Checked) → then (Body p k) rest ≡ Body p k
+pub stop : (p k : ℕ) (rest : Checked) → then (Err (Body p k)) rest ≡ Err (Body p k)
 unfolding then
 stop p k rest = refl
 
@@ -135,9 +150,9 @@ stop p k rest = refl
 pub first-left : (found : Checked) (xs : List (ℕ × Bool)) → first_of found xs ≡ Accepted → found ≡ Accepted
 unfolding first_of
 first-left found [] same = same
-first-left found (x ∷ xs) same = (then-holds found _ (first-left (then found (test x.1 (Setting x.0) Accepted)) xs same)).0
+first-left found (x ∷ xs) same = (then-holds found _ (first-left (then found (test x.1 (Err (Setting x.0)) Accepted)) xs same)).0
 
-test-right : (t : Bool) (o : ℕ) → then Accepted (test t (Setting o) Accepted) ≡ Accepted → t ≡ true
+test-right : (t : Bool) (o : ℕ) → then Accepted (test t (Err (Setting o)) Accepted) ≡ Accepted → t ≡ true
 unfolding then test
 test-right true o same = refl
 test-right false o same = let z : ◌≡◌ {A = ℕ} 0 1 = cc in absurd (omega arith)
@@ -161,18 +176,18 @@ settings-count settings same = head-count settings (then-holds (head_found setti
 -- the document's numbers tell the cases apart
 told : List ℕ → Checked
 told xs =
-    cond (eqb (get_or xs 0 0) 11) Short
-    (cond (eqb (get_or xs 0 0) 12) (Setting (get_or xs 1 0))
-    (cond (eqb (get_or xs 0 0) 13) (Pair (get_or xs 1 0))
-    (cond (eqb (get_or xs 0 0) 14) (Body (get_or xs 1 0) (get_or xs 2 0)) Accepted)))
+    cond (eqb (get_or xs 0 0) 11) (Err Short)
+    (cond (eqb (get_or xs 0 0) 12) (Err (Setting (get_or xs 1 0)))
+    (cond (eqb (get_or xs 0 0) 13) (Err (Pair (get_or xs 1 0)))
+    (cond (eqb (get_or xs 0 0) 14) (Err (Body (get_or xs 1 0) (get_or xs 2 0))) Accepted)))
 
 told-numbers : (found : Checked) → told (numbers_of found) ≡ found
 unfolding numbers_of told
-told-numbers Accepted = refl
-told-numbers Short = refl
-told-numbers (Setting o) = refl
-told-numbers (Pair i) = refl
-told-numbers (Body p k) = refl
+told-numbers (Ok done) = refl
+told-numbers (Err Short) = refl
+told-numbers (Err (Setting o)) = refl
+told-numbers (Err (Pair i)) = refl
+told-numbers (Err (Body p k)) = refl
 
 pub numbers-tell : (found found' : Checked) → numbers_of found ≡ numbers_of found' → found ≡ found'
 numbers-tell found found' same = sym (told-numbers found) ∙ ap told same ∙ told-numbers found'

@@ -8,8 +8,10 @@ use Rattle.field.specs.Tab.{tab}
 use Rattle.limits.specs.Range.{both, between, within, temperature}
 use Rattle.setting.specs.Found.{test, then}
 use Rattle.setting.specs.declared.Settings.{Settings}
-use Rattle.setting.specs.declared.Checked.{Checked}
-use Rattle.setting.specs.declared.Checked.TheVariants.{Accepted, Short, Setting}
+use Rattle.setting.specs.declared.BankRefusal.TheVariants.{Short, Setting}
+use Rattle.std.specs.Prelude.{Err}
+use Rattle.setting.specs.Found.{Checked}
+use Rattle.setting.specs.Found.{Accepted}
 
 -- the settings, by their offsets
 unfoldable pub settings_at : List ℕ → Settings
@@ -33,7 +35,7 @@ settings_at bank = record {
 -- the first wrong one of fields, each given by its offset and whether it is right, after what was found before
 unfoldable pub first_of : Checked → List (ℕ × Bool) → Checked
 first_of found [] = found
-first_of found (x ∷ xs) = first_of (then found (test x.1 (Setting x.0) Accepted)) xs
+first_of found (x ∷ xs) = first_of (then found (test x.1 (Err (Setting x.0)) Accepted)) xs
 
 -- n, start, outage choice, SLL, SLH, start value, outage width, filter constant
 abbrev pub head_rows : Settings → List (ℕ × Bool)
@@ -56,7 +58,7 @@ unfoldable pub halves_found : ℕ → ℕ → ℕ → List ℕ → List ℕ → 
 halves_found top top' at [] ys = Accepted
 halves_found top top' at (x ∷ xs) [] = Accepted
 halves_found top top' at (x ∷ xs) (y ∷ ys) =
-    test (leb x top) (Setting at) (test (leb y top') (Setting (at + 2)) (halves_found top top' (at + 4) xs ys))
+    test (leb x top) (Err (Setting at)) (test (leb y top') (Err (Setting (at + 2))) (halves_found top top' (at + 4) xs ys))
 
 -- then wait zone and wait minutes from 13 on, on minute and off minute from 29 on
 unfoldable pub settings_found : Settings → Checked
@@ -66,4 +68,4 @@ settings_found settings =
 -- ---- 11: fewer than 45 bytes, and 12, of the settings of a bank
 
 unfoldable pub settings_in : List ℕ → Checked
-settings_in bank = test (leb 45 (length bank)) Short (settings_found (settings_at bank))
+settings_in bank = test (leb 45 (length bank)) (Err Short) (settings_found (settings_at bank))

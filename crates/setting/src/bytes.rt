@@ -3,7 +3,15 @@ ghost use Rattle.std.specs.Prelude.{◌≡◌, ℕ, ◌+◌, ◌<◌, ◌≤◌,
 ghost use Rattle.field.specs.Field.{field};
 ghost use Rattle.field.specs.Tab.{tab};
 
-use field::{byte, join2};
+use field::join2;
+
+// The 16-bit number at an offset, both bytes of which are there.
+pub fn word_in(bank: &[u8], at: usize) -> u16
+    requires { at + 2 ≤ length bank.now }
+    ensures { result ≡ field 2 bank.now at }
+{
+    join2(bank[at], bank[at + 1])
+}
 
 // Four 16-bit numbers, four bytes apart, all of which are there.
 pub fn four_words(bank: &[u8], at: usize) -> [u16; 4]
@@ -11,22 +19,19 @@ pub fn four_words(bank: &[u8], at: usize) -> [u16; 4]
     ensures { result ≡ tab (field 2 bank.now) 4 at 4 }
 {
     [
-        join2(bank[at], bank[at + 1]),
-        join2(bank[at + 4], bank[at + 5]),
-        join2(bank[at + 8], bank[at + 9]),
-        join2(bank[at + 12], bank[at + 13]),
+        word_in(bank, at),
+        word_in(bank, at + 4),
+        word_in(bank, at + 8),
+        word_in(bank, at + 12),
     ]
 }
 
-// The first 45 bytes, those past the end 0.
+// The bytes of a bank that is shorter than its settings, and 0 for those past its end.
 pub fn padded(bank: &[u8]) -> [u8; 45]
+    requires { length bank.now ≤ 45 }
     ensures { (j : ℕ) → j < 45 → get_or result j 0 ≡ get_or bank.now j 0 }
 {
     let mut out = [0u8; 45];
-    let mut i: usize = 0;
-    while i < 45 {
-        out[i] = byte(bank, i);
-        i += 1;
-    }
+    out[..bank.len()].copy_from_slice(bank);
     out
 }

@@ -13,10 +13,9 @@ mod judging;
 mod range;
 mod reading;
 
-// What the check of a bank finds. `numbers_of` gives the document's number and values of each case.
+// What is wrong with a bank: the first wrong field. `numbers_of` gives the document's number and values of each case.
 #[derive(Clone, Copy)]
-pub enum Checked {
-    Accepted,
+pub enum BankRefusal {
     Short,
     Setting(u16),
     Pair(u8),
@@ -27,8 +26,8 @@ pub enum Checked {
 #[derive(Clone, Copy)]
 pub struct Settings {
     pub patterns: u8, // n
-    pub start: u8, // start choice: 0 from measured value, 1 from start value
-    pub outage: u8, // outage choice: 0 stop, 1 hold, 2 continue
+    pub start: u8, // start choice: 0 from measured value, 1 from start value; a number, since one out of range has a refusal, 12
+    pub outage: u8, // outage choice: 0 stop, 1 hold, 2 continue; a number, for the same reason
     pub low: i16, // SLL
     pub high: i16, // SLH
     pub initial: i16, // start value
@@ -41,18 +40,18 @@ pub struct Settings {
 }
 
 // The first wrong one of settings.
-pub fn check_settings(settings: Settings) -> Checked
+pub fn check_settings(settings: Settings) -> Result<(), BankRefusal>
     ensures { numbers_of result ≡ numbers_of (settings_found settings) }
 {
     judging::check(settings)
 }
 
 // The first wrong one of the settings of a bank, if it has all of them.
-pub fn check_settings_in(bank: &[u8]) -> Checked
+pub fn check_settings_in(bank: &[u8]) -> Result<(), BankRefusal>
     ensures { numbers_of result ≡ numbers_of (settings_in bank.now) }
 {
     if bank.len() < 45 {
-        return Checked::Short;
+        return Err(BankRefusal::Short);
     }
     judging::check(reading::settings_in(bank))
 }

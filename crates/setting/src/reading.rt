@@ -3,31 +3,27 @@ ghost use Rattle.std.specs.Prelude.{◌≡◌, ◌≤◌, length};
 ghost use Rattle.setting.specs.Setting.{settings_at};
 
 use crate::Settings;
-use crate::bytes::{four_words, padded};
-use field::{join2, signed_of};
+use crate::bytes::{four_words, padded, word_in};
+use field::signed_of;
 
 // The settings of a bank that has all of them.
 pub fn settings_in(bank: &[u8]) -> Settings
     requires { 45 ≤ length bank.now }
     ensures { result ≡ settings_at bank.now }
 {
-    let zones = four_words(bank, 13);
-    let waits = four_words(bank, 15);
-    let on = four_words(bank, 29);
-    let off = four_words(bank, 31);
     Settings {
         patterns: bank[0],
         start: bank[1],
         outage: bank[2],
-        low: signed_of(join2(bank[3], bank[4])),
-        high: signed_of(join2(bank[5], bank[6])),
-        initial: signed_of(join2(bank[7], bank[8])),
-        width: join2(bank[9], bank[10]),
-        filter: join2(bank[11], bank[12]),
-        zones,
-        waits,
-        on,
-        off,
+        low: signed_of(word_in(bank, 3)),
+        high: signed_of(word_in(bank, 5)),
+        initial: signed_of(word_in(bank, 7)),
+        width: word_in(bank, 9),
+        filter: word_in(bank, 11),
+        zones: four_words(bank, 13),
+        waits: four_words(bank, 15),
+        on: four_words(bank, 29),
+        off: four_words(bank, 31),
     }
 }
 
@@ -35,9 +31,9 @@ pub fn settings_in(bank: &[u8]) -> Settings
 pub fn read_settings(bank: &[u8]) -> Settings
     ensures { result ≡ settings_at bank.now }
 {
-    if 45 <= bank.len() {
-        return settings_in(bank);
+    if bank.len() < 45 {
+        settings_in(&padded(bank))
+    } else {
+        settings_in(bank)
     }
-    let head = padded(bank);
-    settings_in(&head)
 }

@@ -4,9 +4,7 @@
 
 fn main(rt: HostRuntime) {
     let mut buffer = [0u8; 4096];
-    let loaded = files::load_bank(&rt, &mut buffer);
-    if loaded.is_read {
-        let size = loaded.size;
+    if let Some(size) = files::load_bank(&rt, &mut buffer) {
         terminal::run_bank(&rt, &buffer[..size], true);
     }
 }

@@ -1,6 +1,6 @@
 -- The starred examples of document 01, as one table: what a definition gives, and what the document says.
 -- Assumes nothing.
-use Rattle.std.specs.Prelude.{ℕ, ◌≡◌, List, [], ◌∷◌, map, ℤ, pos, negsuc, replicate, get_or}
+use Rattle.std.specs.Prelude.{ℕ, ◌≡◌, List, [], ◌∷◌, map, ℤ, pos, negsuc, replicate, get_or, Option, None, Some}
 use Prim.Native.String.{String}
 use Prim.Native.String as string
 use Prim.Native.Char.{code}
@@ -14,7 +14,6 @@ use Rattle.arrays.specs.Encode.{encode}
 use Rattle.measure.specs.Filter.{after_of, whole_of}
 use Rattle.measure.specs.declared.Measured.{Measured}
 use Rattle.measure.specs.declared.Reading.{Reading}
-use Rattle.measure.specs.declared.Whole.{Whole}
 use Rattle.position.specs.Program.{here_of, ramp_of}
 use Rattle.plain.specs.Setup.{Setup}
 use Rattle.line.specs.Beside.{sheet_over}
@@ -44,9 +43,9 @@ bits_of (Measured.Value y) = pos (to_bits binary64 y)
 abbrev pub shown : Measured → ℤ
 shown measured = number (whole_of measured)
   where
-    number : Whole → ℤ
-    number Whole.Nothing = pos 0
-    number (Whole.Value v) = v
+    number : Option ℤ → ℤ
+    number None = pos 0
+    number (Some v) = v
 
 -- "Bank: n 1, start 1, choice 2, SLL 0, SLH 1,000, start value 200, other settings 0"
 abbrev pub settings : Settings

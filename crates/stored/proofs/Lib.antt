@@ -1,3 +1,2 @@
--- The law that the copy cites, and the laws of a row that is copied.
-pub mod Turn
+-- The laws of a part of a buffer that is made, and of a row that is copied.
 pub mod Part

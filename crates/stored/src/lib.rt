@@ -10,29 +10,37 @@ ghost use Rattle.field.specs.Row.{row, total, stored_row, RowFits};
 pub fn put(buffer: &mut [u8], at: usize, width: usize, v: u64)
     ensures { buffer.new ≡ stored width buffer.old at v }
 {
-    if buffer.len() < width {
+    if buffer.len() < width || buffer.len() - width < at {
         return;
     }
-    if buffer.len() - width < at {
-        return;
-    }
-    put_digits(buffer, at, width, v);
+    put_digits(&mut buffer[at..at + width], v);
 }
 
-fn put_digits(buffer: &mut [u8], at: usize, width: usize, v: u64)
-    requires { at + width ≤ length buffer.old }
-    ensures { buffer.new ≡ sets buffer.old at (digits width v) }
+fn put_digits(place: &mut [u8], v: u64)
+    ensures { place.new ≡ digits (length place.old) v }
 {
-    let mut i: usize = 0;
-    let mut x = v;
-    while i < width {
-        buffer[at + i] = (x % 256) as u8;
-        x = x / 256;
-        i += 1;
+    let mut rest = v;
+    // By its index, which the edit `bytes_over_each_other` needs to write all bytes in one place.
+    for i in 0..place.len() {
+        place[i] = (rest % 256) as u8;
+        rest /= 256;
     }
 }
 
-// Numbers are written one after the other at an offset, each in its own width, if they fit there.
+// Bytes are written at an offset, if they fit there.
+pub fn put_bytes<const N: usize>(buffer: &mut [u8], at: usize, bytes: &[u8; N])
+    ensures { buffer.new ≡ cond (leb (at + N) (length buffer.old)) (sets buffer.old at bytes.now) buffer.old }
+{
+    if N <= buffer.len() && at <= buffer.len() - N {
+        // One by one: `copy_from_slice` waits for an array whose parts were written just before (an event took a tenth longer).
+        for i in 0..N {
+            buffer[at + i] = bytes[i];
+        }
+    }
+}
+
+// Numbers are written one after the other at an offset, each in its own width, if they fit there. Widths and numbers are two slices, since the law
+// of rows (`row`) is about two lists.
 pub fn put_row(buffer: &mut [u8], at: usize, widths: &[u8], numbers: &[u32])
     ensures { buffer.new ≡ stored_row widths.now buffer.old at numbers.now }
 {
@@ -52,15 +60,12 @@ pub fn put_row(buffer: &mut [u8], at: usize, widths: &[u8], numbers: &[u32])
 fn has_room(widths: &[u8], room: usize) -> bool
     ensures { result ≡ leb (total widths.now) room }
 {
-    let mut i: usize = 0;
     let mut left = room;
-    while i < widths.len() {
-        let width = widths[i] as usize;
-        if left < width {
+    for width in widths {
+        let Some(less) = left.checked_sub(*width as usize) else {
             return false;
-        }
-        left -= width;
-        i += 1;
+        };
+        left = less;
     }
     true
 }
@@ -69,13 +74,11 @@ fn put_all(buffer: &mut [u8], at: usize, widths: &[u8], numbers: &[u32])
     requires { RowFits widths.now buffer.old at numbers.now }
     ensures { buffer.new ≡ sets buffer.old at (row widths.now numbers.now) }
 {
-    let mut i: usize = 0;
     let mut to = at;
-    while i < widths.len() {
-        let width = widths[i] as usize;
-        put_digits(buffer, to, width, numbers[i] as u64);
-        to += width;
-        i += 1;
+    for (width, v) in widths.iter().zip(numbers) {
+        let end = to + *width as usize;
+        put_digits(&mut buffer[to..end], *v as u64);
+        to = end;
     }
 }
 
@@ -83,12 +86,7 @@ fn put_all(buffer: &mut [u8], at: usize, widths: &[u8], numbers: &[u32])
 pub fn copy(buffer: &mut [u8], source: &[u8])
     ensures { buffer.new ≡ cond (eqb (length buffer.old) (length source.now)) source.now buffer.old }
 {
-    if buffer.len() != source.len() {
-        return;
-    }
-    let mut i: usize = 0;
-    while i < buffer.len() {
-        buffer[i] = source[i];
-        i += 1;
+    if buffer.len() == source.len() {
+        buffer.copy_from_slice(source);
     }
 }

@@ -6,24 +6,23 @@ ghost use Rattle.std.specs.Prelude.{◌≡◌};
 ghost use Rattle.position.specs.Program.{past_of, in_zone_of, second_position, leaves_of, end_position, next_position, tick_position};
 ghost use Rattle.position.specs.Command.{feed_position};
 
-use measure::Whole;
 use position::{Here, Position};
 
 // Whether a measured whole value is at or past the target, seen from base b.
-fn past(b: i16, target: i16, value: Whole) -> bool
+#[tactic(auto, unfolding(position::specs::Program::past_of))]
+fn past(b: i16, target: i16, value: Option<i16>) -> bool
     ensures { result ≡ past_of b target value }
 {
-    let Whole::Value(v) = value else {
-        return false;
-    };
-    if b <= target {
-        return target <= v;
+    match value {
+        Some(v) if b <= target => target <= v,
+        Some(v) => v <= target,
+        None => false,
     }
-    v <= target
 }
 
 // Whether a measured whole value is in the step's zone, seen from base b.
-fn in_zone(here: Here, b: i16, value: Whole) -> bool
+#[tactic(auto, unfolding(position::specs::Program::in_zone_of))]
+fn in_zone(here: Here, b: i16, value: Option<i16>) -> bool
     ensures { result ≡ in_zone_of here b value }
 {
     if here.zone == 0 {
@@ -33,35 +32,27 @@ fn in_zone(here: Here, b: i16, value: Whole) -> bool
 }
 
 // A second of the step: its time, or its wait.
+#[tactic(auto, unfolding(position::specs::Program::second_position))]
 fn second(here: Here, mut position: Position) -> Position
     ensures { result ≡ second_position here position }
 {
     if here.endless {
-        position.elapsed = if position.elapsed < 359999 {
-            position.elapsed + 1
-        } else {
-            359999
-        };
-        return position;
-    }
-    if position.elapsed < here.time {
-        position.elapsed = position.elapsed + 1;
-        return position;
-    }
-    position.waited = if position.waited < 4294967295 {
-        position.waited + 1
+        position.elapsed = position.elapsed.saturating_add(1).min(359999);
+    } else if position.elapsed < here.time {
+        position.elapsed += 1;
     } else {
-        4294967295
-    };
+        position.waited = position.waited.saturating_add(1);
+    }
     position
 }
 
 // Whether the step is over.
-fn leaves(here: Here, value: Whole, position: Position) -> bool
+#[tactic(auto, unfolding(position::specs::Tests::both, position::specs::Tests::either, position::specs::Program::leaves_of))]
+fn leaves(here: Here, value: Option<i16>, position: Position) -> bool
     ensures { result ≡ leaves_of here value position }
 {
     let waited = in_zone(here, position.base, value) | (here.wait <= position.waited);
-    !here.endless & ((position.elapsed == here.time) & ((here.number == 0) | waited))
+    !here.endless & (position.elapsed == here.time) & ((here.number == 0) | waited)
 }
 
 // Mode 3.
@@ -70,37 +61,43 @@ fn ended(position: Position) -> Position
 {
     Position {
         mode: 3,
-        pattern: position.pattern,
-        step: position.step,
-        pass: position.pass,
         elapsed: 0,
         waited: 0,
         base: 0,
+        ..position
     }
 }
 
 // The next step, the next pass, or the end.
-fn next(here: Here, mut position: Position) -> Position
+#[tactic(auto, unfolding(position::specs::Program::next_position))]
+fn next(here: Here, position: Position) -> Position
     ensures { result ≡ next_position here position }
 {
-    let value = ramp::set_value(here, position);
+    let first = Position {
+        elapsed: 0,
+        waited: 0,
+        base: ramp::set_value(here, position),
+        ..position
+    };
     if position.step < here.count {
-        position.step = position.step + 1;
-    } else {
-        if here.limit <= position.pass {
-            return ended(position);
+        Position {
+            step: position.step + 1,
+            ..first
         }
-        position.pass = position.pass + 1;
-        position.step = 1;
+    } else if position.pass < here.limit {
+        Position {
+            step: 1,
+            pass: position.pass + 1,
+            ..first
+        }
+    } else {
+        ended(position)
     }
-    position.base = value;
-    position.elapsed = 0;
-    position.waited = 0;
-    position
 }
 
 // The position's part of a tick.
-pub fn tick(here: Here, value: Whole, position: Position) -> Position
+#[tactic(auto, unfolding(position::specs::Program::tick_position))]
+pub fn tick(here: Here, value: Option<i16>, position: Position) -> Position
     ensures { result ≡ tick_position here value position }
 {
     if position.mode != 1 {
@@ -114,6 +111,7 @@ pub fn tick(here: Here, value: Whole, position: Position) -> Position
 }
 
 // Feed: next; mode 3 if endless.
+#[tactic(auto, unfolding(position::specs::Command::feed_position))]
 pub fn feed(here: Here, position: Position) -> Position
     ensures { result ≡ feed_position here position }
 {

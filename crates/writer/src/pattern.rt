@@ -1,57 +1,44 @@
 // The patterns that a writer is handed: their check, and the number of their steps.
-ghost use Rattle.std.specs.Prelude.{◌≡◌, length};
-ghost use Rattle.arrays.specs.Read.{all_steps};
+ghost use Rattle.std.specs.Prelude.{◌≡◌, ◌≤◌, length, sum};
+ghost use Rattle.setting.specs.Found.{Accepted};
 ghost use Rattle.setting.specs.Setting.{settings_found};
 ghost use Rattle.bank.specs.Check.{bodies_found};
-ghost use Rattle.arrays.specs.Write.{taken_of, within_capacity, wrong_in};
+ghost use Rattle.arrays.specs.Write.{taken_of, within_capacity};
 
 use arrays::Patterns;
 use bank::check_step;
 use capacity::capacity;
-use setting::{Checked, Settings};
+use setting::{BankRefusal, Settings};
 
 // The n patterns: the first wrong field ends both loops, with its place.
-pub fn check_patterns(settings: Settings, ps: Patterns) -> Checked
-    requires { settings_found settings ≡ Checked.Accepted }
+pub fn check_patterns(settings: Settings, ps: Patterns) -> Result<(), BankRefusal>
+    requires { settings_found settings ≡ Accepted }
     ensures { result ≡ bodies_found (within_capacity settings.patterns) settings.low settings.high 1 (taken_of settings ps) }
 {
-    let n = settings.patterns;
-    let most = capacity(n);
+    let most = capacity(settings.patterns);
     let mut base: usize = 0;
-    let mut p: u8 = 0;
-    'walk: loop {
-        if n <= p {
-            break 'walk Checked::Accepted;
-        }
-        let i = p as usize;
-        if !((ps.runs[i] <= 99) & (ps.counts[i] <= most)) {
-            break 'walk Checked::Body(p + 1, 0);
-        }
-        let count = ps.counts[i] as usize;
-        let mut k: usize = 0;
-        while k < count {
-            let step = ps.steps[base + k];
-            if !check_step(settings.low, settings.high, step) {
-                break 'walk Checked::Body(p + 1, (k + 1) as u8);
+    'walk: {
+        for p in 0..settings.patterns {
+            let count = ps.counts[p as usize];
+            if !((ps.runs[p as usize] <= 99) & (count <= most)) {
+                break 'walk Err(BankRefusal::Body(p + 1, 0));
             }
-            k += 1;
+            let next = base + count as usize;
+            for (k, step) in ps.steps[base..next].iter().enumerate() {
+                if !check_step(settings.low, settings.high, *step) {
+                    break 'walk Err(BankRefusal::Body(p + 1, k as u8 + 1));
+                }
+            }
+            base = next;
         }
-        base += count;
-        p += 1;
+        Ok(())
     }
 }
 
-// The number of steps of the n patterns.
-pub fn count_steps(settings: Settings, ps: Patterns) -> usize
-    requires { wrong_in settings (taken_of settings ps) ≡ Checked.Accepted }
-    ensures { result ≡ length (all_steps (taken_of settings ps)) }
+// The number of steps of patterns.
+pub fn count_steps(counts: &[u8]) -> usize
+    requires { length counts.now ≤ 15 }
+    ensures { result ≡ sum counts.now }
 {
-    let n = settings.patterns as usize;
-    let mut base: usize = 0;
-    let mut p: usize = 0;
-    while p < n {
-        base += ps.counts[p] as usize;
-        p += 1;
-    }
-    base
+    counts.iter().map(|count| *count as usize).sum()
 }

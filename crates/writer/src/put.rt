@@ -1,5 +1,5 @@
-// The parts of a bank, written one after the other into a buffer that has room for it.
-ghost use Rattle.std.specs.Prelude.{◌≡◌, [], ◌∷◌, ◌++◌, ◌+◌, ◌*◌, ◌≤◌, length, take, drop, replicate};
+// The parts of a bank, written one after the other into a buffer that has room for it. Widths and numbers are two lists, as in the law of rows.
+ghost use Rattle.std.specs.Prelude.{◌≡◌, [], ◌∷◌, ◌++◌, ◌+◌, ◌*◌, ◌≤◌, length, take, replicate};
 ghost use Rattle.std.proofs.lemmas.List.Edits.{sets};
 ghost use Rattle.field.specs.Row.{row};
 ghost use Rattle.arrays.specs.Encode.{setting_widths, setting_numbers, paired, step_widths, step_numbers, steps_bytes, bodies_bytes, pairs_bytes, encode};
@@ -9,7 +9,7 @@ ghost use Rattle.writer.specs.Asked.{Room, BodyRoom};
 use arrays::Patterns;
 use bank::Step;
 use integer::bits;
-use setting::{Checked, Settings};
+use setting::Settings;
 use stored::put_row;
 
 // The settings up to the filter constant.
@@ -17,7 +17,6 @@ fn put_head(out: &mut [u8], settings: Settings)
     requires { 45 ≤ length out.old }
     ensures { out.new ≡ sets out.old 0 (row (take 8 setting_widths) (take 8 (setting_numbers settings))) }
 {
-    let widths = [1u8, 1, 1, 2, 2, 2, 2, 2];
     let numbers = [
         settings.patterns as u32,
         settings.start as u32,
@@ -28,7 +27,7 @@ fn put_head(out: &mut [u8], settings: Settings)
         settings.width as u32,
         settings.filter as u32,
     ];
-    put_row(out, 0, &widths, &numbers);
+    put_row(out, 0, &[1, 1, 1, 2, 2, 2, 2, 2], &numbers);
 }
 
 // Four pairs of numbers of 16 bits, at an offset.
@@ -36,7 +35,6 @@ fn put_halves(out: &mut [u8], at: usize, xs: [u16; 4], ys: [u16; 4])
     requires { at + 16 ≤ length out.old }
     ensures { out.new ≡ sets out.old at (row (replicate 8 2) (paired xs ys)) }
 {
-    let widths = [2u8; 8];
     let numbers = [
         xs[0] as u32,
         ys[0] as u32,
@@ -47,7 +45,7 @@ fn put_halves(out: &mut [u8], at: usize, xs: [u16; 4], ys: [u16; 4])
         xs[3] as u32,
         ys[3] as u32,
     ];
-    put_row(out, at, &widths, &numbers);
+    put_row(out, at, &[2; 8], &numbers);
 }
 
 // The settings.
@@ -56,12 +54,8 @@ fn put_settings(out: &mut [u8], settings: Settings)
     ensures { out.new ≡ sets out.old 0 (row setting_widths (setting_numbers settings)) }
 {
     put_head(out, settings);
-    let zones = settings.zones;
-    let waits = settings.waits;
-    put_halves(out, 13, zones, waits);
-    let on = settings.on;
-    let off = settings.off;
-    put_halves(out, 29, on, off);
+    put_halves(out, 13, settings.zones, settings.waits);
+    put_halves(out, 29, settings.on, settings.off);
 }
 
 // The pairs of body offset and length: the first body is due behind the pairs, each next where the one before ends.
@@ -70,16 +64,11 @@ fn put_pairs(out: &mut [u8], settings: Settings, ps: Patterns)
     ensures { out.new ≡ sets out.old 45 (pairs_bytes (45 + 4 * settings.patterns) (taken_of settings ps)) }
 {
     let n = settings.patterns as usize;
-    let widths = [2u8, 2];
     let mut due = 45 + 4 * n;
-    let mut p: usize = 0;
-    while p < n {
-        let size = 2 + 9 * (ps.counts[p] as usize);
-        let next = due + size;
-        let numbers = [due as u32, size as u32];
-        put_row(out, 45 + 4 * p, &widths, &numbers);
-        due = next;
-        p += 1;
+    for (p, count) in ps.counts[..n].iter().enumerate() {
+        let size = 2 + 9 * (*count as usize);
+        put_row(out, 45 + 4 * p, &[2, 2], &[due as u32, size as u32]);
+        due += size;
     }
 }
 
@@ -88,7 +77,6 @@ fn put_step(out: &mut [u8], at: usize, step: Step)
     requires { at + 9 ≤ length out.old }
     ensures { out.new ≡ sets out.old at (row step_widths (step_numbers step)) }
 {
-    let widths = [2u8, 2, 1, 1, 1, 1, 1];
     let numbers = [
         bits(step.target) as u32,
         step.minutes as u32,
@@ -98,23 +86,17 @@ fn put_step(out: &mut [u8], at: usize, step: Step)
         step.signals[2] as u32,
         step.signals[3] as u32,
     ];
-    put_row(out, at, &widths, &numbers);
+    put_row(out, at, &[2, 2, 1, 1, 1, 1, 1], &numbers);
 }
 
-// The body of a pattern, whose steps stand from place base on, at an offset.
-fn put_body(out: &mut [u8], at: usize, runs: u8, count: u8, steps: [Step; 99], base: usize)
-    requires { BodyRoom base count at out.old }
-    ensures { out.new ≡ sets out.old at (row (1 ∷ 1 ∷ []) (runs ∷ count ∷ []) ++ steps_bytes (take count (drop base steps))) }
+// The body of a pattern, at an offset.
+fn put_body(out: &mut [u8], at: usize, runs: u8, steps: &[Step])
+    requires { BodyRoom (length steps.now) at out.old }
+    ensures { out.new ≡ sets out.old at (row (1 ∷ 1 ∷ []) (runs ∷ length steps.now ∷ []) ++ steps_bytes steps.now) }
 {
-    let widths = [1u8, 1];
-    let numbers = [runs as u32, count as u32];
-    put_row(out, at, &widths, &numbers);
-    let s = count as usize;
-    let mut k: usize = 0;
-    while k < s {
-        let step = steps[base + k];
-        put_step(out, at + 2 + 9 * k, step);
-        k += 1;
+    put_row(out, at, &[1, 1], &[runs as u32, steps.len() as u32]);
+    for (k, step) in steps.iter().enumerate() {
+        put_step(out, at + 2 + 9 * k, *step);
     }
 }
 
@@ -126,13 +108,12 @@ fn put_bodies(out: &mut [u8], from: usize, settings: Settings, ps: Patterns)
     let n = settings.patterns as usize;
     let mut at = from;
     let mut base: usize = 0;
-    let mut p: usize = 0;
-    while p < n {
-        let count = ps.counts[p];
-        put_body(out, at, ps.runs[p], count, ps.steps, base);
-        at += 2 + 9 * (count as usize);
-        base += count as usize;
-        p += 1;
+    for p in 0..n {
+        let size = ps.counts[p] as usize;
+        let steps = &ps.steps[base..base + size];
+        put_body(out, at, ps.runs[p], steps);
+        at += 2 + 9 * size;
+        base += size;
     }
 }
 

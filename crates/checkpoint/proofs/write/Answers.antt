@@ -5,7 +5,7 @@ use mathlib.Core.Path.{◌≡◌, sym, ap, ◌∙◌}
 use mathlib.Core.List.{List}
 use native.Mathlib.Omega.{arith}
 use borrow.Author.Rules.{rules}
-use borrow.Author.Tests.{eq-eqb, ne_eqb}
+use borrow.Author.Tests.{eq-eqb}
 use lib.ListN.{length}
 use lib.Seq.{sets}
 use Rattle.field.specs.Row.{row, total}
@@ -15,14 +15,6 @@ use Rattle.plain.specs.Record.{Checkpoint, widths_of, position_widths, position_
 use Rattle.plain.proofs.Record.{put_record}
 use Rattle.checkpoint.proofs.write.Goals as goal
 
-pub returns-then-store-ne-SIZE : goal.returns-then-store-ne-SIZE
-unfolding sized credit_widths widths_of total
-returns-then-store-ne-SIZE c = rw (ne_eqb (length c.args.store.now) record_size (λ size. omega (arith, c.if-store-ne-SIZE.true)))
-
-pub put_credits-requires : goal.put_credits-requires
-unfolding credit_widths widths_of total
-put_credits-requires c = omega arith
-
 pub returns : goal.returns
 unfolding sized credit_widths widths_of total
 returns c =
@@ -31,7 +23,7 @@ returns c =
     let credits = c.args.credits in
     let alarms = c.args.alarms in
     let checkpoint : Checkpoint = record { position = position; credits = credits; alarms = alarms } in
-    let size : length store ≡ record_size = omega (arith, c.if-store-ne-SIZE.false) in
+    let size : length store ≡ record_size = omega arith in
     let first = c.write_position.ensures ∙ stored_row_lem position_widths store 0 (position_numbers position) (omega arith) (omega arith) in
     let second = c.put_credits.ensures ∙ ap (λ (bytes : List ℕ). sets bytes credits_from (row credit_widths credits)) first in
     let third = c.write_alarms.ensures ∙ stored_row_lem alarm_widths _ alarms_from (alarm_numbers alarms) (omega arith) (omega arith) in

@@ -16,6 +16,3 @@ pub record Due (out₀ : List ℕ) (at : ℕ) (numbers : List ℤ) (out : List �
 
 abbrev pub invariant-loop-i : goal.invariant-loop-i
 invariant-loop-i l = Due l.initial.out l.at l.numbers l.out l.to l.i
-
-abbrev pub decreases-loop-i : goal.decreases-loop-i
-decreases-loop-i l = length l.numbers - l.i

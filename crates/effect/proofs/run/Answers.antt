@@ -8,25 +8,23 @@ use Rattle.plain.specs.Answer.{is_accepted}
 use Rattle.plain.specs.Setup.{over}
 use Rattle.effect.proofs.Walk.{made-stands}
 use Rattle.effect.proofs.run.Goals as goal
-use borrow.Enum.Refused.{opened}
-
-pub returns-in_default : goal.returns-in_default
-unfolding final
-returns-in_default c =
-    let a = c.args in
-    let make = c.make-made in
-    let h = ap (λ (left : After). is_accepted left.answer) (sym make.ensures) ∙ is-refused make.result.answer (opened c.in_default.in_default-own.keys2) in
-    make.ensures ∙ sym (not_made (over a.bank.now a.config) a.store.now h (events_in a.bytes.now))
 
 pub run_from-requires : goal.run_from-requires
 run_from-requires c =
     let a = c.args in
-    let make = c.make-made in
-    made-stands (over a.bank.now a.config) a.store.now make.result _ make.ensures (is-accepted make.result.answer c.in-Accepted.in-Accepted-own.keys1)
+    made-stands (over a.bank.now a.config) a.store.now c.make-made.result _ c.make-made.ensures (is-accepted c.in-Ok.is)
 
-pub returns : goal.returns
+pub returns-in-Ok : goal.returns-in-Ok
 unfolding final
-returns c =
+returns-in-Ok c =
     let a = c.args in
     c.run_from.ensures
     ∙ ap (λ (left : After). events_from (over a.bank.now a.config) left (events_in a.bytes.now)) c.make-made.ensures
+
+pub returns-in-Err : goal.returns-in-Err
+unfolding final
+returns-in-Err c =
+    let a = c.args in
+    let make = c.make-made in
+    let refused = ap (λ (left : After). is_accepted left.answer) (sym make.ensures) ∙ is-refused c.in-Err.is in
+    make.ensures ∙ sym (not_made (over a.bank.now a.config) a.store.now refused (events_in a.bytes.now))

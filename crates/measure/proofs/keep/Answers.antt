@@ -9,10 +9,10 @@ pub returns-then-x-2 : goal.returns-then-x-2
 unfolding kept of_bits neg
 returns-then-x-2 c = simp (c.if-x.true, c.if-x-2.true) refl
 
-pub returns-then-x : goal.returns-then-x
+pub returns-else-x-2 : goal.returns-else-x-2
 unfolding kept of_bits neg
-returns-then-x c = simp (c.if-x.true, c.if-x-2.false) refl
+returns-else-x-2 c = simp (c.if-x.true, c.if-x-2.false) refl
 
-pub returns : goal.returns
+pub returns-else-x : goal.returns-else-x
 unfolding kept of_bits neg
-returns c = simp c.if-x.false refl
+returns-else-x c = simp c.if-x.false refl

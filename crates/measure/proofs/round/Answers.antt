@@ -1,6 +1,7 @@
 -- `measure::round` meets its contract: by the sign of y, where it is in range, and 0 elsewhere, as `nearest` has it.
 -- Assumes nothing.
-use Rattle.std.proofs.Common.{◌≡◌, true, ℤ, pos, ◌-ℤ◌, neg_ℤ, sym, ap, ◌∙◌, w16, to_z, of_z}
+use Rattle.std.proofs.Common.{◌≡◌, true, false, ℤ, pos, ◌-ℤ◌, neg_ℤ, sym, ap, ◌∙◌, w16, to_z, of_z, arith}
+use Rattle.std.proofs.lemmas.Grind.{common_steps}
 use lib.IntN.{+ℤ_idl}
 use lib.Ieee.{Float, of_bits}
 use mir.ValLaws.{to_z-of_z}
@@ -8,16 +9,16 @@ use Rattle.measure.specs.Filter.{within, nearest, rounded}
 use Rattle.measure.proofs.Range.{inside, minus-fits}
 use Rattle.measure.proofs.Nearest.{Below, below, at-nought}
 use Rattle.measure.proofs.round.Goals as goal
-use Rattle.measure.proofs.round.Goals.{After-half_up-then-y-2, Then-inside, Then-y-2}
+use Rattle.measure.proofs.round.Goals.{After-half_up-then-y-2, Else-not-inside, Then-y-2}
 
 -- ---- where y is in range
-abbrev Y : Then-inside → Float
+abbrev Y : Else-not-inside → Float
 Y c = c.args.y
 
-in-range : (c : Then-inside) → within (Y c) ≡ true
-in-range c = sym c.inside.ensures ∙ c.if-inside.true
+in-range : (c : Else-not-inside) → within (Y c) ≡ true
+in-range c = let known : c.inside.result ≡ true = grind (arith, common_steps) in sym c.inside.ensures ∙ known
 
-is : (c : Then-inside) → nearest (Y c) ≡ rounded (Y c)
+is : (c : Else-not-inside) → nearest (Y c) ≡ rounded (Y c)
 unfolding nearest
 is c = simp (in-range c)
 
@@ -53,6 +54,6 @@ unfolding of_bits
 returns-else-y-2 c =
     sym (is c.before.before ∙ at-nought (Y c.before.before) (inside (Y c.before.before) (in-range c.before.before)) c.if-y.false c.if-y-2.false)
 
-pub returns-else-inside : goal.returns-else-inside
+pub returns-then-not-inside : goal.returns-then-not-inside
 unfolding nearest
-returns-else-inside c = simp (sym c.inside.ensures ∙ c.if-inside.false)
+returns-then-not-inside c = let known : c.inside.result ≡ false = grind (arith, common_steps) in simp (sym c.inside.ensures ∙ known)

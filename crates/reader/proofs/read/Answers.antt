@@ -1,27 +1,29 @@
 -- `reader::read` meets its contract.
 -- Assumes nothing.
 use mathlib.Core.Path.{sym, ap, ◌∙◌}
+use Rattle.std.proofs.lemmas.Result.{err_from_is_err_and}
 use Rattle.setting.specs.Setting.{settings_at}
 use Rattle.setting.specs.declared.Settings.{Settings}
 use Rattle.setting.proofs.Laws.{numbers-tell}
 use Rattle.arrays.specs.Read.{given}
-use Rattle.arrays.proofs.Answers.{unaccepted, read-refused, read-accepted}
+use Rattle.arrays.proofs.Answers.{read-refused, read-accepted}
+use Rattle.std.specs.Prelude.{Ok}
 use Rattle.reader.proofs.read.Goals as goal
 
-pub returns-in_default : goal.returns-in_default
-returns-in_default c =
-    let bank = c.args.bank.now in
-    let check = c.check-found in
-    ap given (c.refused.ensures ∙ read-refused bank (numbers-tell _ _ c.check-found.ensures) (unaccepted check.result c.in_default.not-Accepted))
+pub returns-in_err-check : goal.returns-in_err-check
+returns-in_err-check c =
+    let p = err_from_is_err_and c.from_residual.result c.from_residual.ensures.1 in
+    rw (p.1, p.2) (sym (ap given (read-refused c.args.bank.now (sym (numbers-tell _ _ c.check.ensures) ∙ c.in_err-check.was))))
 
 pub patterns-patterns-requires : goal.patterns-patterns-requires
 unfolding settings_at
-patterns-patterns-requires c = record { ok = sym (numbers-tell _ _ c.check-found.ensures) ∙ c.in-Accepted.is; count = ap (λ (settings : Settings). settings.patterns) c.read_settings-settings.ensures }
+patterns-patterns-requires c = record {
+  ok = sym (numbers-tell _ _ c.check.ensures) ∙ c.in_ok-check.was;
+  count = ap (λ (settings : Settings). settings.patterns) c.read_settings-settings.ensures;
+}
 
 pub returns : goal.returns
 returns c =
-    let bank = c.args.bank.now in
-    let check = c.check-found in
     ap given
-    ((λ i. record { found = check.result; settings = c.read_settings-settings.ensures i; patterns = c.patterns-patterns.ensures i })
-    ∙ read-accepted bank (numbers-tell _ _ c.check-found.ensures) c.in-Accepted.is)
+    ((λ i. Ok (record { settings = c.read_settings-settings.ensures i; patterns = c.patterns-patterns.ensures i }))
+    ∙ sym (read-accepted c.args.bank.now (sym (numbers-tell _ _ c.check.ensures) ∙ c.in_ok-check.was)))

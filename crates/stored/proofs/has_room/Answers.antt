@@ -1,32 +1,25 @@
--- `stored::has_room` meets its contract. The invariant: all the widths fit if the rest of them fits what is left.
+-- `stored::has_room` meets its contract.
 -- Assumes nothing.
-use mathlib.Core.Path.{refl, sym, ◌∙◌}
-use native.Mathlib.Omega.{arith}
-use lib.ListN.{drop}
+use Rattle.std.proofs.Common.{◌∙◌, sym, drop, arith}
 use borrow.Author.Tests.{lt-leb, le-leb}
 use Rattle.field.specs.Row.{total}
 use Rattle.field.proofs.Rows.{total-turn, total-end, fits-turn}
 use Rattle.stored.proofs.has_room.Goals as goal
 
-pub loop-i-init : goal.loop-i-init
-loop-i-init c = (omega arith, omega arith, refl)
+pub returns-in_default : goal.returns-in_default
+returns-in_default c =
+    let l = c.loop-width in
+    let t = total-turn c.args.widths.now l.width-index c.loop-width-test.true in
+    sym (l.invariant ∙ lt-leb (total (drop l.width-index c.args.widths.now)) l.left (omega (arith, c.in_default.ensures)))
 
-pub overflow_cast-width : goal.overflow_cast-width
-overflow_cast-width c = omega (arith, c.shared_slice_known-1.given c.loop-i.i)
-
-pub returns-then-left-width : goal.returns-then-left-width
-returns-then-left-width c =
-    let l = c.loop-i in
-    let t = total-turn c.args.widths.now l.i c.loop-i-test.true in
-    sym (l.invariant.2 ∙ lt-leb (total (drop l.i c.args.widths.now)) l.left (omega arith))
-
-pub loop-i-preserved : goal.loop-i-preserved
-loop-i-preserved c =
-    let l = c.loop-i in
-    (omega arith, omega arith, l.invariant.2 ∙ fits-turn c.args.widths.now l.i l.left c.loop-i-test.true (omega arith))
+pub loop-width-preserved : goal.loop-width-preserved
+loop-width-preserved c =
+    let l = c.loop-width in
+    let h = c.in-Some.ensures in
+    l.invariant ∙ rw h.1 (fits-turn c.args.widths.now l.width-index l.left c.loop-width-test.true h.0)
 
 pub returns : goal.returns
 returns c =
-    let l = c.loop-i in
-    let t = total-end c.args.widths.now l.i (omega arith) in
-    sym (l.invariant.2 ∙ le-leb (total (drop l.i c.args.widths.now)) l.left (omega arith))
+    let l = c.loop-width in
+    let t = total-end c.args.widths.now l.width-index (omega arith) in
+    sym (l.invariant ∙ le-leb (total (drop l.width-index c.args.widths.now)) l.left (omega arith))

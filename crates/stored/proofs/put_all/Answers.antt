@@ -1,49 +1,47 @@
--- `stored::put_all` meets its contract. The invariant: what is left to store, stored, gives what the contract says.
+-- `stored::put_all` meets its contract.
 -- Assumes nothing.
-use Prim.Native.Nat.{ℕ}
-use mathlib.Core.Path.{◌≡◌, refl, sym, ap, ◌∙◌}
-use mathlib.Core.List.{List, []}
-use native.Mathlib.Omega.{arith}
-use lib.ListN.{drop, drop_of_length-le}
-use lib.Seq.{sets}
-use Rattle.field.specs.Row.{row}
-use Rattle.field.proofs.Rows.{row-turn, total-turn}
+use Rattle.std.proofs.Common.{◌≡◌, ◌+◌, ◌-◌, ◌∙◌, [], ap, refl, length, rules, arith}
+use Rattle.std.proofs.Math.Seq.{sets}
+use Rattle.std.proofs.Math.ListN.{drop_of_length-le}
+use borrow.Rule.Slice.PartMut.{put_mid}
+use Rattle.field.specs.Field.{digits}
+use Rattle.field.specs.Row.{row, total}
+use Rattle.field.proofs.Rows.{row-turn}
+use Rattle.stored.proofs.Part.{part-digits}
 use Rattle.stored.proofs.put_all.Goals as goal
 
-pub loop-i-init : goal.loop-i-init
-loop-i-init c = (omega arith, refl, refl, refl)
+pub slice_bounds-put_digits-end : goal.slice_bounds-put_digits-end
+unfolding total
+slice_bounds-put_digits-end c =
+    let t : total c.loop-width.width-iterator.a.rest.now ≡ c.in-Some.width.now + total c.next.new.self.a.rest.now = ap total c.in-Some.ensures.steps.0 in
+    omega arith
 
-pub overflow_cast-width : goal.overflow_cast-width
-overflow_cast-width c = omega (arith, c.shared_slice_known-in-loop-i-1.given c.loop-i.i)
-
-pub overflow_cast-numbers : goal.overflow_cast-numbers
-overflow_cast-numbers c = omega (arith, c.shared_slice_known-in-loop-i-2-1.given c.loop-i.i)
-
-pub put_digits-requires : goal.put_digits-requires
-put_digits-requires c =
-    omega (arith, total-turn c.args.widths.now c.loop-i.i c.loop-i-test.true)
-
-pub overflow_add-to : goal.overflow_add-to
-overflow_add-to c =
-    omega (arith, total-turn c.args.widths.now c.loop-i.i c.loop-i-test.true)
-
-pub loop-i-preserved : goal.loop-i-preserved
-loop-i-preserved c =
-    let l = c.loop-i in
-    let a = c.args in
-    let h = c.loop-i-test.true in
-    let t = total-turn a.widths.now l.i h in
-    let same = c.put_digits.ensures in (
-      omega arith,
-      omega arith,
-      omega arith,
-      rw same (row-turn l.buffer a.widths.now a.numbers.now l.to l.i h (omega arith) ∙ l.invariant.3),
-    )
+pub loop-width-preserved : goal.loop-width-preserved
+unfolding total
+loop-width-preserved c =
+    let l = c.loop-width in
+    let h = c.in-Some.ensures.steps in
+    let width = c.in-Some.width.now in
+    let v = c.in-Some.v.now in
+    let widths = c.next.new.self.a.rest.now in
+    let numbers = c.next.new.self.b.rest.now in
+    let t : total l.width-iterator.a.rest.now ≡ width + total widths = ap total h.0 in
+    let wrote : put_mid l.to (l.to + width - l.to) l.buffer c.put_digits.new.place ≡ sets l.buffer l.to (digits width v) =
+    part-digits l.buffer _ l.to (l.to + width) width v refl (omega arith) c.put_digits.ensures in
+    record {
+      can_next = search rules;
+      is_finite = search rules;
+      enough = omega (arith, ap length h.0, ap length h.1);
+      room = omega arith;
+      made = rw wrote (row-turn l.buffer widths numbers l.to width v ∙ rw (← h.0, ← h.1) l.invariant.made);
+    }
 
 pub returns : goal.returns
 unfolding row
 returns c =
-    let l = c.loop-i in
-    let a = c.args in
-    let same : drop l.i a.widths.now ≡ [] = drop_of_length-le a.widths.now {i = l.i} (omega arith) in
-    ap (λ (x : List ℕ). sets l.buffer l.to (row x (drop l.i a.numbers.now))) (sym same) ∙ l.invariant.3
+    let l = c.loop-width in
+    let widths = l.width-iterator.a.rest.now in
+    let h = c.in-None.ensures.steps in
+    let none : length widths ≡ 0 = grind arith in
+    let same : widths ≡ [] = drop_of_length-le widths {i = 0} (omega arith) in
+    rw same at l.invariant.made

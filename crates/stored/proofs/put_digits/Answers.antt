@@ -1,27 +1,21 @@
--- `stored::put_digits` meets its contract. The invariant: what is left to store, stored, gives what the contract says. Assumes nothing.
-use Prim.Native.Nat.{ℕ, ◌-◌, ◌+◌}
-use mathlib.Core.Path.{◌≡◌, refl, ◌∙◌, sym, ap}
-use native.Mathlib.Omega.{arith}
-use native.Mathlib.Nat.{add-zero, sub-zero}
-use lib.ListN.{length-set}
-use lib.Seq.{sets}
+-- `stored::put_digits` meets its contract.
+-- Assumes nothing.
+use Rattle.std.proofs.Common.{◌≡◌, ◌-◌, ◌∙◌, length, arith}
+use Rattle.std.proofs.lemmas.List.{append-nil}
+use Rattle.std.proofs.Math.Seq.{take_all}
 use Rattle.field.specs.Field.{digits}
 use Rattle.field.proofs.Laws.{write-turn}
 use Rattle.stored.proofs.put_digits.Goals as goal
 
-pub loop-i-init : goal.loop-i-init
-loop-i-init c = (omega arith, refl, simp (add-zero, sub-zero))
-
 pub loop-i-preserved : goal.loop-i-preserved
 loop-i-preserved c =
     let l = c.loop-i in
-    let a = c.args in
-    (omega arith, simp length-set (omega arith), write-turn l.buffer a.at l.i a.width l.x (omega arith) ∙ l.invariant.2)
+    write-turn l.place l.i (length c.args.place.now) l.rest (omega arith) (omega arith) ∙ l.invariant
 
 pub returns : goal.returns
 unfolding digits
 returns c =
     let l = c.loop-i in
-    let a = c.args in
-    let same : a.width - l.i ≡ 0 = omega arith in
-    ap (λ (number : ℕ). sets l.buffer (a.at + l.i) (digits number l.x)) (sym same) ∙ l.invariant.2
+    let n = length c.args.place.now in
+    let none : n - l.i ≡ 0 = omega arith in
+    rw (none, append-nil, take_all l.i l.place (omega arith)) at l.invariant

@@ -1,27 +1,20 @@
 -- `writer::rewrite` meets its contract: what was read is written as the bytes that it was read from.
 -- Assumes nothing.
-use mathlib.Core.Path.{◌≡◌, sym, ap, ◌∙◌}
-use Rattle.setting.specs.declared.Checked.{Checked}
-use Rattle.setting.specs.declared.Checked.TheVariants.{Accepted}
-use borrow.Author.Rules.{rules}
-use Rattle.arrays.specs.Write.{write_as, rewrite_of}
-use Rattle.arrays.proofs.Answers.{unaccepted, refused_as_lem}
-use Rattle.arrays.proofs.Round.{found_as, rewritten}
+use mathlib.Core.Path.{sym, ◌∙◌}
+use Rattle.std.proofs.lemmas.Result.{err_from_is_err_and}
+use Rattle.arrays.specs.Write.{rewrite_of}
+use Rattle.arrays.proofs.Answers.{refused_as_lem}
+use Rattle.arrays.proofs.Round.{given-tell, refused-alike, rewritten}
 use Rattle.writer.proofs.rewrite.Goals as goal
 
-pub returns-in_default : goal.returns-in_default
+pub returns-in_err-whole : goal.returns-in_err-whole
 unfolding rewrite_of
-returns-in_default c =
-    let read = c.read-whole in
-    let bytes = c.args.bank.now in
-    let out = c.args.out.now in
-    let f = read.result.found in
-    sym (ap (λ (f : Checked). write_as f bytes out) (sym (found_as bytes read.result read.ensures)) ∙ refused_as_lem bytes out f (unaccepted f (search rules)))
+returns-in_err-whole c =
+    let p = err_from_is_err_and c.from_residual.result c.from_residual.ensures.1 in
+    let bank = c.args.bank.now in
+    rw (p.1, p.2) (sym (refused_as_lem bank c.args.out.now (refused-alike bank (sym (given-tell _ _ c.read.ensures) ∙ c.in_err-whole.was))))
 
 pub returns : goal.returns
 returns c =
-    let bytes = c.args.bank.now in
-    let read = c.read-whole in
-    let ok : read.result.found ≡ Accepted = cc in
     c.write.ensures.out_after
-    ∙ rewritten bytes read.result read.ensures (λ i. (c.type_inv.bank i).fits) ok c.args.out.now
+    ∙ rewritten c.args.bank.now (sym (given-tell _ _ c.read.ensures) ∙ c.in_ok-whole.was) (λ i. (c.type_inv.bank i).fits) c.args.out.now

@@ -7,7 +7,7 @@ use Rattle.setting.proofs.Laws.{both-and}
 use Rattle.bank.proofs.body.body_right.Goals as goal
 
 pub overflow_cast-result : goal.overflow_cast-result
-overflow_cast-result c = omega (arith, c.shared_slice_known-2-1.given (c.args.at + 1))
+overflow_cast-result c = omega (arith, c.type_inv.bank (c.args.at + 1))
 
 pub returns : goal.returns
 returns c = simp (field-one, both-and)

@@ -1,14 +1,18 @@
 -- `bank::pair::body_in` meets its contract.
 -- Assumes nothing.
+use native.Mathlib.Omega.{arith}
+use mathlib.Core.Path.{refl}
+use Rattle.field.proofs.Laws.{field-joined}
 use Prim.Native.Nat.{◌+◌, ◌*◌}
-use mathlib.Core.Path.{sym, ◌∙◌}
-use Rattle.field.proofs.Laws.{field-four}
-use Rattle.bank.proofs.Walk.{pair-gives}
 use Rattle.bank.proofs.pair.body_in.Goals as goal
 
 pub returns : goal.returns
 returns c =
     let bank = c.args.bank.now in
-    let p = c.args.p in
-    let known = c.shared_slice_known-1 in
-    pair-gives bank p c.halves.result (λ i. (known.given i).fits) (c.join4.ensures ∙ sym (field-four bank (41 + 4 * p))) c.halves.ensures
+    let at = 41 + 4 * c.args.p in
+    record {
+      at = field-joined bank at (at + 1) at c.join2.ensures refl refl;
+      len = field-joined bank (at + 2) (at + 3) (43 + 4 * c.args.p) c.join2-2.ensures (omega arith) (omega arith);
+      near = omega arith;
+      short = omega arith;
+    }

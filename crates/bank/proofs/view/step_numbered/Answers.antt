@@ -1,21 +1,24 @@
 -- `bank::view::step_numbered` meets its contract.
 -- Assumes nothing.
+use Prim.Native.Nat.{◌≤◌, ◌<◌}
 use mathlib.Core.Path.{sym, ◌∙◌}
+use mathlib.Core.Logic.{◌⊎◌}
 use native.Mathlib.Omega.{arith}
-use Rattle.field.proofs.Tab.{length-tab}
-use Rattle.bank.proofs.Facts.{numbered-tab, numbered-past, numbered-none}
+use Rattle.std.proofs.lemmas.Grind.{common_steps}
+use Rattle.std.proofs.lemmas.Bool.Decides.{nat_tests}
+use Rattle.bank.proofs.Facts.{step-default, numbered-tab, numbered-outside}
 use Rattle.bank.specs.View.{no_step, step_at, steps_in}
 use Rattle.bank.proofs.view.step_numbered.Goals as goal
 
-pub returns-then-k-lt1 : goal.returns-then-k-lt1
-returns-then-k-lt1 c = c.no_step.ensures ∙ sym (numbered-none no_step _ c.args.k c.if-k-lt1.true)
-
-pub returns-then-steps_in-i : goal.returns-then-steps_in-i
-returns-then-steps_in-i c =
+pub returns-then-contains : goal.returns-then-contains
+returns-then-contains c =
     let a = c.args in
-    c.no_step-then-steps_in-i.ensures ∙ sym (numbered-past no_step _ a.k (omega (arith, length-tab (step_at a.bank.now) 9 a.at (steps_in a.len))))
+    let from : 1 ≤ a.k = grind (arith, nat_tests, common_steps) in
+    let to : a.k ≤ steps_in a.len = grind (arith, nat_tests, common_steps) in
+    c.step_at.ensures ∙ sym (numbered-tab no_step (step_at a.bank.now) 9 a.at (steps_in a.len) a.k from to)
 
-pub returns : goal.returns
-returns c =
+pub returns-else-contains : goal.returns-else-contains
+returns-else-contains c =
     let a = c.args in
-    c.step_at.ensures ∙ sym (numbered-tab no_step (step_at a.bank.now) 9 a.at (steps_in a.len) a.k (omega arith) (omega arith))
+    let outside : (a.k < 1) ⊎ (steps_in a.len < a.k) = grind (arith, nat_tests, common_steps) in
+    step-default c.default.result c.default.ensures ∙ sym (numbered-outside no_step (step_at a.bank.now) 9 a.at (steps_in a.len) a.k outside)

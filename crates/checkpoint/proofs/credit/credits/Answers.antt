@@ -1,60 +1,54 @@
--- `checkpoint::credit::credits` meets its contract. The invariant: what has been read, and then what is yet to be read, is what the contract says, and
--- nothing is read ahead.
+-- `checkpoint::credit::credits` meets its contract: each element is what the call for its place gave.
 -- Assumes nothing.
-use Prim.Native.Nat.{ℕ, ◌≤◌, ◌-◌, ◌+◌, ◌*◌}
-use mathlib.Core.Path.{◌≡◌, refl, sym, ap, ◌∙◌}
-use mathlib.Core.List.{List, ◌++◌, append-nil}
+use Prim.Native.Nat.{ℕ, zero, suc, ◌+◌, ◌*◌, ◌≤◌, ◌<◌}
+use mathlib.Core.Path.{◌≡◌, sym, ap, ◌∙◌, subst}
+use mathlib.Core.List.{List}
+use mathlib.Core.Logic.{◌⊎◌, inl, inr}
+use native.Mathlib.Nat.{mul-add, mul-one}
+use native.Mathlib.Numerals.{add-one}
 use native.Mathlib.Omega.{arith}
-use lib.ListN.{length, take, set, get_or, length-set, replicate}
-use lib.Seq.{take_all, get_or-set_other}
+use borrow.Author.Rules.{rules}
+use denote.Param.Members.{Mut, Called}
+use lib.ListN.{length, get_or, replicate, length-replicate}
+use lib.Seq.{ext_get_or}
+use Rattle.std.specs.Array.{IsFromFnResultFrom}
+use Rattle.std.proofs.lemmas.Bool.{cases_lt}
 use Rattle.field.specs.Field.{field}
 use Rattle.field.specs.Row.{row_at, total}
-use Rattle.field.proofs.Laws.{field-four}
-use Rattle.field.proofs.Rows.{zero-at, read-turn, rows-past, zeros-behind}
+use Rattle.field.proofs.Rows.{length-row_at}
 use Rattle.plain.specs.Record.{widths_of, credit_widths, credits_from, credits_in}
 use Rattle.checkpoint.proofs.credit.credits.Goals as goal
 
-pub loop-i-init : goal.loop-i-init
-unfolding credits_in credit_widths widths_of total
-loop-i-init c = (omega arith, refl, λ j h. zero-at 99 j, refl)
+-- where each call gives the number of its place and changes nothing, each element is the number of its place
+module _ {F : Type 0} (g : Mut F (ℕ × Unit {0}) ℕ) (f : F) (number : ℕ → ℕ) (step : (i y : ℕ) (q : F) → Called g f (i, tt) y q → (y ≡ number i) × (q ≡ f)) where
+  each-is : (ys : List ℕ) (i n : ℕ) → IsFromFnResultFrom g f ys i n → (j : ℕ) → i ≤ j → j < i + n → get_or ys j 0 ≡ number j
+  each-is ys i zero h j from below = absurd (omega arith)
+  each-is ys i (suc n) h j from below = go (cases_lt i j) (λ l. each-is ys (i + 1) n (subst (λ (q : F). IsFromFnResultFrom g q ys (i + 1) n) s.1 h.4) j l (omega arith))
+    where
+      s : (h.1 ≡ number i) × (h.0 ≡ f)
+      s = step i h.1 h.0 h.3
 
-pub loop-i-preserved : goal.loop-i-preserved
-unfolding widths_of total
-loop-i-preserved c =
-    let l = c.loop-i in
-    let store = c.args.store.now in
-    let credit : c.join4.result ≡ field 4 store (credits_from + 4 * l.i) = omega (arith, c.join4.ensures, field-four store (credits_from + 4 * l.i)) in (
-      omega arith,
-      simp length-set l.invariant.1,
-      λ j h. get_or-set_other l.cs l.i j _ 0 (λ q. omega arith) ∙ l.invariant.2 j (omega arith),
-      rw credit (read-turn store l.cs credits_from l.i 4 99 (omega arith) (omega arith) ∙ l.invariant.3),
-    )
+      go : (i < j) ⊎ (j ≤ i) → (i + 1 ≤ j → get_or ys j 0 ≡ number j) → get_or ys j 0 ≡ number j
+      go (inl l) later = later (omega arith)
+      go (inr l) later =
+          let here : j ≡ i = omega arith in
+          ap (λ (k : ℕ). get_or ys k 0) here ∙ h.2.1 0 ∙ s.0 ∙ ap number (sym here)
 
-pub returns-then-whole-eq99 : goal.returns-then-whole-eq99
+-- a number of a row of one width
+number-at : (width count : ℕ) (bytes : List ℕ) (at i : ℕ) → i < count → get_or (row_at (replicate count width) bytes at) i 0 ≡ field width bytes (at + width * i)
 unfolding row_at
-returns-then-whole-eq99 c =
-    let l = c.loop-i in
-    let store = c.args.store.now in
-    let end : l.i ≡ 99 = omega arith in
-    let size : length l.cs ≤ 99 = omega arith in
-    sym (append-nil (take 99 l.cs) ∙ take_all 99 l.cs size)
-    ∙ ap (λ (i : ℕ). take i l.cs ++ row_at (replicate (99 - i) 4) store (credits_from + 4 * i)) (sym end) ∙ l.invariant.3
+number-at width zero bytes at i h = absurd (omega arith)
+number-at width (suc count) bytes at zero h = ap (field width bytes) (omega arith)
+number-at width (suc count) bytes at (suc i) h =
+    let next : at + width + width * i ≡ at + width * suc i = rw (← add-one, mul-add, mul-one) (omega arith) in
+    number-at width count bytes (at + width) i (omega arith) ∙ ap (field width bytes) next
 
 pub returns : goal.returns
-unfolding widths_of total
+unfolding credits_in credit_widths widths_of total
 returns c =
-    let l = c.loop-i in
-    let whole = c.whole_credits-whole.result in
+    let made = c.from_fn.ensures.items in
     let store = c.args.store.now in
-    let broken : c.long.result ≡ field 4 store (credits_from + 4 * whole) = c.long.ensures in
-    let credits = set l.cs whole (field 4 store (credits_from + 4 * whole)) in
-    let end : l.i ≡ whole = omega arith in
-    let size : length credits ≡ 99 = simp length-set l.invariant.1 in
-    let zeros : (j : ℕ) → whole + 1 ≤ j → get_or credits j 0 ≡ 0 =
-    λ j h. get_or-set_other l.cs whole j _ 0 (λ q. omega arith) ∙ l.invariant.2 j (omega arith) in
-    let past = rows-past 4 (99 - (whole + 1)) store (credits_from + 4 * (whole + 1)) (omega (arith, c.whole_credits-whole.ensures)) in
-    ap (set l.cs whole) broken
-    ∙ zeros-behind credits (whole + 1) 99 size (omega arith) zeros
-    ∙ ap (λ (rest : List ℕ). take (whole + 1) credits ++ rest) (sym past)
-    ∙ read-turn store l.cs credits_from whole 4 99 (omega arith) (omega arith)
-    ∙ ap (λ (i : ℕ). take i l.cs ++ row_at (replicate (99 - i) 4) store (credits_from + 4 * i)) (sym end) ∙ l.invariant.3
+    let each = each-is _ _ (λ i. field 4 store (15 + 4 * i)) (λ i y q called. (search rules, search rules)) c.from_fn.result 0 99 made.each in
+    let size : length (credits_in store) ≡ 99 = length-row_at credit_widths store credits_from ∙ length-replicate {A = ℕ} 99 4 in
+    ext_get_or 0 c.from_fn.result (credits_in store) (made.long ∙ sym size)
+    (λ j l. each j (omega arith) (omega (arith, made.long)) ∙ sym (number-at 4 99 store credits_from j (omega (arith, made.long))))

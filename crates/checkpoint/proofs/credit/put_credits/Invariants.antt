@@ -1,6 +1,6 @@
 -- `checkpoint::credit::put_credits` meets its contract. The invariant: what is yet to be stored, stored, gives what the contract says.
 -- Assumes nothing.
-use Prim.Native.Nat.{◌≤◌, ◌-◌, ◌+◌, ◌*◌}
+use Prim.Native.Nat.{◌+◌, ◌*◌}
 use mathlib.Core.Path.{◌≡◌}
 use lib.ListN.{length, drop}
 use lib.Seq.{sets}
@@ -10,8 +10,7 @@ use Rattle.checkpoint.proofs.credit.put_credits.Given as goal
 
 abbrev pub invariant-loop-i : goal.invariant-loop-i
 invariant-loop-i l =
-    (l.i ≤ 99) × (length l.store ≡ length l.initial.store)
-    × (sets l.store (credits_from + 4 * l.i) (row (drop l.i credit_widths) (drop l.i l.credits)) ≡ sets l.initial.store credits_from (row credit_widths l.credits))
-
-abbrev pub decreases-loop-i : goal.decreases-loop-i
-decreases-loop-i l = 99 - l.i
+    record {
+      long : length l.store ≡ length l.initial.store;
+      gives : sets l.store (credits_from + 4 * l.i) (row (drop l.i credit_widths) (drop l.i l.fn.credits)) ≡ sets l.initial.store credits_from (row credit_widths l.fn.credits);
+    }

@@ -2,7 +2,7 @@
 use mathlib.Core.Path.{subst}
 use Rattle.plain.specs.declared.Event.{Event}
 use Rattle.effect.specs.declared.Progress.{Progress}
-use Rattle.effect.specs.Done.{Does, DoesPress, DoesCut, DoesReturn}
+use Rattle.effect.specs.Done.{Does, DoesPress}
 use Rattle.effect.proofs.events.known.Goals as goal
 
 pub tick-requires : goal.tick-requires
@@ -13,27 +13,18 @@ returns-in-Tick c =
     let a = c.args in
     let does = subst (λ (progress : Progress). Does a.settings a.here a.power progress (Event.Tick c.in-Tick.reading) c.tick.result)
     c.by_parts-from.ensures c.tick.ensures in
-    rw c.in-Tick.is (λ config alarms ready bounded. does _ _ alarms ready)
+    rw c.in-Tick.is (does _ _)
 
 pub returns-in-Press : goal.returns-in-Press
 returns-in-Press c =
     let a = c.args in
-    let pressed = Event.Press c.in-Press.pressed in
-    let does = subst (λ (progress : Progress). DoesPress a.bank.now a.settings a.here a.power progress pressed c.press.result)
+    let does =
+    subst (λ (progress : Progress). DoesPress a.bank.now a.settings a.here a.power progress (Event.Press c.in-Press.pressed) c.press.result)
     c.by_parts-from.ensures c.press.ensures in
-    rw c.in-Press.is (λ config alarms ready bounded. does config _ alarms ready)
+    rw c.in-Press.is (does _ _)
 
 pub returns-in-Cut : goal.returns-in-Cut
-returns-in-Cut c =
-    let args = c.args in
-    let by_parts = c.by_parts-from in
-    let does = subst (λ (progress : Progress). DoesCut args.power progress c.cut.result) by_parts.ensures c.cut.ensures in
-    rw c.in-Cut.is (λ config alarms ready bounded. does _ _ _ _ alarms ready)
+returns-in-Cut c = rw c.in-Cut.is (c.cut.ensures _ _ _ _ _)
 
 pub returns-in-Return : goal.returns-in-Return
-returns-in-Return c =
-    let a = c.args in
-    let by_parts = c.by_parts-from in
-    let does = subst (λ (progress : Progress). DoesReturn a.bank.now a.store.now a.settings a.power progress a.bounded (Event.Return c.in-Return.reading) c.restore.result)
-    by_parts.ensures c.restore.ensures in
-    rw c.in-Return.is (does a.here)
+returns-in-Return c = rw c.in-Return.is (c.restore.ensures _ _)

@@ -1,26 +1,23 @@
--- `judge::one::is_true` meets its contract. Assumes nothing.
-use mir.Syntax.{w16}
-use mir.Val.{SFits}
+-- `judge::one::is_true` meets its contract.
+-- Assumes nothing.
+use Rattle.std.proofs.Common.{arith}
 use mir.Facts.{to_z-of_z}
-use Rattle.alarm.proofs.Coded.{outside, over, under, inside}
+use Rattle.position.specs.Tests.{both, either, within}
+use Rattle.alarm.specs.Alarm.{condition}
 use Rattle.judge.proofs.one.is_true.Goals as goal
 
-pub returns-then-kind : goal.returns-then-kind
-returns-then-kind c =
-    rw (c.at_least-over.ensures, c.at_most-under.ensures, to_z-of_z ((let high : SFits w16 c.args.setting.high = record { sfits = c.well_formed.0.1.1.1.0.1 } in high)), to_z-of_z ((let low : SFits w16 c.args.setting.low = record { sfits = c.well_formed.0.1.1.1.1.0.1 } in low)), to_z-of_z c.ranges.value)
-    (outside c.args.setting c.args.widening c.args.value c.if-kind.true)
+pub returns-in-1 : goal.returns-in-1
+unfolding condition either
+returns-in-1 c = grind (arith, to_z-of_z)
 
-pub returns-then-kind-2 : goal.returns-then-kind-2
-returns-then-kind-2 c =
-    rw (c.at_least-over.ensures, to_z-of_z ((let high : SFits w16 c.args.setting.high = record { sfits = c.well_formed.0.1.1.1.0.1 } in high)), to_z-of_z c.ranges.value)
-    (over c.args.setting c.args.widening c.args.value c.if-kind.false c.if-kind-2.true)
+pub returns-in-2 : goal.returns-in-2
+unfolding condition either
+returns-in-2 c = grind (arith, to_z-of_z)
 
-pub returns-then-kind-3 : goal.returns-then-kind-3
-returns-then-kind-3 c =
-    rw (c.at_most-under.ensures, to_z-of_z ((let low : SFits w16 c.args.setting.low = record { sfits = c.well_formed.0.1.1.1.1.0.1 } in low)), to_z-of_z c.ranges.value)
-    (under c.args.setting c.args.widening c.args.value c.if-kind.false c.if-kind-2.false c.if-kind-3.true)
+pub returns-in-3 : goal.returns-in-3
+unfolding condition either
+returns-in-3 c = grind (arith, to_z-of_z)
 
-pub returns : goal.returns
-returns c =
-    rw (c.at_least.ensures, c.at_most.ensures, to_z-of_z ((let high : SFits w16 c.args.setting.high = record { sfits = c.well_formed.0.1.1.1.0.1 } in high)), to_z-of_z ((let low : SFits w16 c.args.setting.low = record { sfits = c.well_formed.0.1.1.1.1.0.1 } in low)), to_z-of_z c.ranges.value)
-    (inside c.args.setting c.args.widening c.args.value c.if-kind.false c.if-kind-2.false c.if-kind-3.false)
+pub returns-in-4 : goal.returns-in-4
+unfolding condition either both within
+returns-in-4 c = grind (arith, to_z-of_z)

@@ -25,8 +25,6 @@ overflow_cast-numbers-8 c = wide c.set_value.result (record { sfits = c.set_valu
 pub returns : goal.returns
 unfolding eight
 returns c =
-    let elapsed = c.struct_known-5-1.given in
-    let waited = c.struct_known-6-1.given in
     let a = c.args in
     let bank = a.bank.now in
     let x = a.run.position in
@@ -37,5 +35,5 @@ returns c =
     to_z-of_z (wide value.result fits) ∙ to_z-of_z fits ∙ value.ensures ∙ ap (λ (said : Here). set_value_of said x) here in
     line-put a.out.now a.at (eight (sheet_over bank) (pos a.number) a.run) (omega arith)
     (λ i. small a.number (omega (arith, c.ranges.number)) i ∷ small x.mode (omega arith) i ∷ small x.pattern (omega arith) i ∷ small x.step (omega arith) i
-    ∷ small x.pass (omega arith) i ∷ small x.elapsed (omega (arith, elapsed)) i ∷ small x.waited (omega (arith, waited)) i ∷ is i ∷ [])
+    ∷ small x.pass (omega arith) i ∷ small x.elapsed (omega arith) i ∷ small x.waited (omega arith) i ∷ is i ∷ [])
     c.put_line.ensures

@@ -1,24 +1,23 @@
 -- `setting::judging::check` meets its contract: each part ends the check or lets it go on.
 -- Assumes nothing.
 use mathlib.Core.Path.{sym, ◌∙◌}
-use Rattle.setting.proofs.Laws.{ends, goes}
+use Rattle.setting.proofs.Laws.{exit-returns, ends, goes}
 use Rattle.setting.specs.Setting.{settings_found}
 use Rattle.setting.proofs.judging.check.Goals as goal
-use borrow.Enum.Refused.{opened}
 
-pub returns-in_default : goal.returns-in_default
+pub returns-in_err-check_head : goal.returns-in_err-check_head
 unfolding settings_found
-returns-in_default c = sym (ends _ c.check_head-head.ensures (opened c.in_default.in_default-own.keys2))
+returns-in_err-check_head c =
+    let was = c.in_err-check_head.was in
+    exit-returns _ was c.from_residual.ensures.1 ∙ sym (ends _ c.check_head.ensures was)
 
-pub returns-in_default-waiting : goal.returns-in_default-waiting
+pub returns-in_err-check_halves : goal.returns-in_err-check_halves
 unfolding settings_found
-returns-in_default-waiting c =
-    sym (goes c.check_head-head.ensures c.in-Accepted.in-Accepted-own.keys1
-    ∙ ends _ c.check_halves-waiting.ensures (opened c.in_default-waiting.in_default-waiting-own.keys2))
+returns-in_err-check_halves c =
+    let was = c.in_err-check_halves.was in
+    exit-returns _ was c.from_residual-in_err-check_halves.ensures.1
+    ∙ sym (goes c.check_head.ensures c.in_ok-check_head.was ∙ ends _ c.check_halves.ensures was)
 
 pub returns : goal.returns
 unfolding settings_found
-returns c =
-    sym (goes c.check_head-head.ensures c.in-Accepted.in-Accepted-own.keys1
-    ∙ goes c.check_halves-waiting.ensures c.in-Accepted-waiting.in-Accepted-waiting-own.keys1
-    ∙ sym c.check_halves.ensures)
+returns c = sym (goes c.check_head.ensures c.in_ok-check_head.was ∙ goes c.check_halves.ensures c.in_ok-check_halves.was ∙ sym c.check_halves-2.ensures)

@@ -4,5 +4,5 @@ use mathlib.Core.Path.{◌∙◌}
 use Rattle.setting.proofs.Padded.{settings-padded}
 use Rattle.setting.proofs.reading.read_settings.Goals as goal
 
-pub returns : goal.returns
-returns c = c.settings_in-2.ensures ∙ settings-padded _ c.args.bank.now c.padded-head.ensures
+pub returns-then-bank-lt45 : goal.returns-then-bank-lt45
+returns-then-bank-lt45 c = c.settings_in.ensures ∙ settings-padded _ c.args.bank.now c.padded.ensures

@@ -1,88 +1,80 @@
--- `writer::put::put_bodies` meets its contract. The invariant: the whole, written into the buffer as it was, is the rest, written
--- into the buffer as it is.
+-- `writer::put::put_bodies` meets its contract.
 -- Assumes nothing.
 use mathlib.Core.Path.{◌≡◌, refl, sym, ap, ◌∙◌}
-use mathlib.Core.List.{List}
-use Prim.Native.Nat.{◌+◌, ◌*◌, ◌^◌, ◌≤◌, ◌<◌, zero-le}
-use native.Mathlib.Numerals.{add-one-le}
+use mathlib.Core.List.{List, [], ◌∷◌, ◌++◌}
+use Prim.Native.Nat.{ℕ, ◌+◌, ◌-◌, ◌≤◌, ◌<◌, zero-le}
 use native.Mathlib.Omega.{arith}
-use lib.ListN.{length}
+use lib.ListN.{length, get_or, take, drop}
 use lib.Seq.{sets}
+use Rattle.field.specs.Row.{row}
 use Rattle.bank.specs.View.{Pattern}
-use Rattle.arrays.specs.Encode.{bodies_bytes}
-use Rattle.arrays.proofs.Views.{rest, rest_end}
+use Rattle.bank.specs.declared.Step.{Step}
+use Rattle.arrays.specs.Encode.{bodies_bytes, steps_bytes}
+use Rattle.arrays.specs.declared.Patterns.{Patterns}
+use Rattle.arrays.proofs.Views.{rest_end}
 use Rattle.arrays.proofs.Taken.{count_at, pattern_in, taken-rest, Fit, fit_of, sum_to, sum_more, next-in}
 use Rattle.arrays.proofs.Values.{patterns-fit}
-use Rattle.arrays.proofs.Sizes.{bodies-size, bodies-turn}
+use Rattle.arrays.proofs.Sizes.{length_part, bodies-size, bodies-turn}
 use Rattle.writer.proofs.put.put_bodies.Goals as goal
-use Rattle.writer.proofs.put.put_bodies.Goals.{In-loop-p}
 
--- there is a pattern, its steps are there, and its body has room
-room : (c : In-loop-p) → let ps = c.args.ps in
-    let n = c.args.settings.patterns in
-    let l = c.loop-p in
-    let count = count_at ps l.p in
-    (l.p < n) × (n ≤ 15) × (l.base ≡ sum_to ps.counts l.p) × (l.base + count ≤ 99) × (sum_to ps.counts l.p + count ≤ length ps.steps)
-    × (l.at + (2 + 9 * count) + length (bodies_bytes (rest (pattern_in ps) n (l.p + 1))) ≤ length l.out) × (length l.out < 2 ^ 64)
-room c =
-    let ps = c.args.ps in
-    let l = c.loop-p in
-    let n = c.args.settings.patterns in
-    let h = c.loop-p-test.true in
-    let few = next-in n ps ((let fit : Fit c.args.settings.patterns c.args.ps = fit_of c.args.settings c.args.ps c.requires.right in fit)) l.p h in
-    let there : sum_to ps.counts l.p + count_at ps l.p ≤ length ps.steps = omega (arith, few, (patterns-fit ps _ c.well_formed.1.1.1.0).size) in
-    let small = c.well_formed.0.0 in
-    (h, l.invariant.1, l.invariant.2, omega (arith, few, l.invariant.2), there, omega (arith, l.invariant.3, bodies-size ps n l.p h there), omega (arith, small, l.invariant.4))
+-- so many steps from place base on, as the code takes them
+abbrev part : List Step → ℕ → ℕ → List Step
+part steps base count = take (base + count - base) (drop base steps)
+
+part-is : (steps : List Step) (base count : ℕ) → part steps base count ≡ take count (drop base steps)
+part-is steps base count = let size : base + count - base ≡ count = omega arith in ap (λ (m : ℕ). take m (drop base steps)) size
+
+length-part : (steps : List Step) (base count : ℕ) → base + count ≤ length steps → length (part steps base count) ≡ count
+length-part steps base count h = ap length (part-is steps base count) ∙ length_part steps base count h
+
+-- the steps of a pattern are there, and are at most 99
+there : (ps : Patterns) (n : ℕ) (fit : Fit n ps) (base p : ℕ) → base ≡ sum_to ps.counts p → length ps.steps ≡ 99 → p < n →
+    (base + count_at ps p ≤ 99) × (base + count_at ps p ≤ length ps.steps) × (sum_to ps.counts p + count_at ps p ≤ length ps.steps)
+there ps n fit base p begins size h = let few = next-in n ps fit p h in (omega arith, omega arith, omega arith)
 
 pub loop-p-init : goal.loop-p-init
 unfolding sum_to
 loop-p-init c =
     let same = ap (λ (xs : List Pattern). length (bodies_bytes xs)) (taken-rest c.args.settings c.args.ps) in
-    (zero-le, ((let fit : Fit c.args.settings.patterns c.args.ps = fit_of c.args.settings c.args.ps c.requires.right in fit)).few, refl, omega (arith, same, c.requires.fits), refl, refl)
+    record {
+      few = (fit_of c.args.settings c.args.ps c.requires.right).few;
+      inside = zero-le;
+      begins = refl;
+      room = omega (arith, same, c.requires.fits);
+      left = refl;
+    }
+
+pub slice_bounds-steps-end : goal.slice_bounds-steps-end
+slice_bounds-steps-end c =
+    let l = c.loop-p in
+    (there c.args.ps c.args.settings.patterns (fit_of c.args.settings c.args.ps c.requires.right) l.base l.p l.invariant.begins
+    (patterns-fit c.args.ps _ c.well_formed.1.1.1.0).size c.loop-p-test.true).1
 
 pub put_body-requires : goal.put_body-requires
 put_body-requires c =
-    let known = (let room : let ps = c.args.ps in
-    let n = c.args.settings.patterns in
     let l = c.loop-p in
-    let count = count_at ps l.p in
-    (l.p < n) × (n ≤ 15) × (l.base ≡ sum_to ps.counts l.p) × (l.base + count ≤ 99) × (sum_to ps.counts l.p + count ≤ length ps.steps)
-    × (l.at + (2 + 9 * count) + length (bodies_bytes (rest (pattern_in ps) n (l.p + 1))) ≤ length l.out) × (length l.out < 2 ^ 64) = let ps = c.args.ps in
-    let l = c.loop-p in
+    let ps = c.args.ps in
     let n = c.args.settings.patterns in
-    let h = c.loop-p-test.true in
-    let few = next-in n ps ((let fit : Fit c.args.settings.patterns c.args.ps = fit_of c.args.settings c.args.ps c.requires.right in fit)) l.p h in
-    let there : sum_to ps.counts l.p + count_at ps l.p ≤ length ps.steps = omega (arith, few, (patterns-fit ps _ c.well_formed.1.1.1.0).size) in
-    let small = c.well_formed.0.0 in
-    (h, l.invariant.1, l.invariant.2, omega (arith, few, l.invariant.2), there, omega (arith, l.invariant.3, bodies-size ps n l.p h there), omega (arith, small, l.invariant.4)) in room) in
-    record { steps = known.3; fits = omega (arith, known.5) }
+    let h = there ps n (fit_of c.args.settings ps c.requires.right) l.base l.p l.invariant.begins (patterns-fit ps _ c.well_formed.1.1.1.0).size c.loop-p-test.true in
+    let size = length-part ps.steps l.base (count_at ps l.p) h.1 in
+    record { few = omega (arith, size, h.0); fits = omega (arith, size, l.invariant.room, bodies-size ps n l.p c.loop-p-test.true h.2) }
 
 pub loop-p-preserved : goal.loop-p-preserved
 loop-p-preserved c =
-    let a = c.args in
-    let ps = a.ps in
     let l = c.loop-p in
-    let put = c.put_body in
-    let known = (let room : let ps = c.args.ps in
+    let ps = c.args.ps in
     let n = c.args.settings.patterns in
-    let l = c.loop-p in
-    let count = count_at ps l.p in
-    (l.p < n) × (n ≤ 15) × (l.base ≡ sum_to ps.counts l.p) × (l.base + count ≤ 99) × (sum_to ps.counts l.p + count ≤ length ps.steps)
-    × (l.at + (2 + 9 * count) + length (bodies_bytes (rest (pattern_in ps) n (l.p + 1))) ≤ length l.out) × (length l.out < 2 ^ 64) = let ps = c.args.ps in
-    let l = c.loop-p in
-    let n = c.args.settings.patterns in
-    let h = c.loop-p-test.true in
-    let few = next-in n ps ((let fit : Fit c.args.settings.patterns c.args.ps = fit_of c.args.settings c.args.ps c.requires.right in fit)) l.p h in
-    let there : sum_to ps.counts l.p + count_at ps l.p ≤ length ps.steps = omega (arith, few, (patterns-fit ps _ c.well_formed.1.1.1.0).size) in
-    let small = c.well_formed.0.0 in
-    (h, l.invariant.1, l.invariant.2, omega (arith, few, l.invariant.2), there, omega (arith, l.invariant.3, bodies-size ps n l.p h there), omega (arith, small, l.invariant.4)) in room) in (
-      add-one-le known.0,
-      l.invariant.1,
-      omega (arith, known.2, sum_more ps.counts l.p),
-      omega (arith, known.5, put.auto.out),
-      put.auto.out ∙ l.invariant.4,
-      l.invariant.5 ∙ bodies-turn ps a.settings.patterns l.p known.0 known.4 l.out l.at l.base known.2 put.ensures,
-    )
+    let h = there ps n (fit_of c.args.settings ps c.requires.right) l.base l.p l.invariant.begins (patterns-fit ps _ c.well_formed.1.1.1.0).size c.loop-p-test.true in
+    let size = length-part ps.steps l.base (count_at ps l.p) h.1 in
+    let steps = part-is ps.steps l.base (count_at ps l.p) in
+    let put = c.put_body.ensures ∙ (λ i. sets l.out l.at (row (1 ∷ 1 ∷ []) (get_or ps.runs l.p 0 ∷ size i ∷ []) ++ steps_bytes (steps i))) in
+    record {
+      few = l.invariant.few;
+      inside = h.0;
+      begins = omega (arith, l.invariant.begins, sum_more ps.counts l.p);
+      room = omega (arith, l.invariant.room, bodies-size ps n l.p c.loop-p-test.true h.2, c.put_body.auto.out);
+      left = l.invariant.left ∙ bodies-turn ps n l.p c.loop-p-test.true h.2 l.out l.at l.base l.invariant.begins put;
+    }
 
 pub returns : goal.returns
 unfolding bodies_bytes
@@ -91,172 +83,4 @@ returns c =
     let settings = c.args.settings in
     let ps = c.args.ps in
     sym (ap (λ (xs : List Pattern). sets c.args.out.now c.args.from (bodies_bytes xs)) (taken-rest settings ps)
-    ∙ l.invariant.5 ∙ ap (λ (xs : List Pattern). sets l.out l.at (bodies_bytes xs)) (rest_end (pattern_in ps) settings.patterns l.p c.loop-p-test.false))
-
-pub bounds-ps-p : goal.bounds-ps-p
-bounds-ps-p c = omega (arith, room c)
-
-pub bounds-ps-p-in-loop-p : goal.bounds-ps-p-in-loop-p
-bounds-ps-p-in-loop-p c = omega (
-  arith,
-  (let room : let ps = c.args.ps in
-      let n = c.args.settings.patterns in
-      let l = c.loop-p in
-      let count = count_at ps l.p in
-      (l.p < n) × (n ≤ 15) × (l.base ≡ sum_to ps.counts l.p) × (l.base + count ≤ 99) × (sum_to ps.counts l.p + count ≤ length ps.steps)
-      × (l.at + (2 + 9 * count) + length (bodies_bytes (rest (pattern_in ps) n (l.p + 1))) ≤ length l.out) × (length l.out < 2 ^ 64) = let ps = c.args.ps in
-      let l = c.loop-p in
-      let n = c.args.settings.patterns in
-      let h = c.loop-p-test.true in
-      let few = next-in n ps ((let fit : Fit c.args.settings.patterns c.args.ps = fit_of c.args.settings c.args.ps c.requires.right in fit)) l.p h in
-      let there : sum_to ps.counts l.p + count_at ps l.p ≤ length ps.steps = omega (arith, few, (patterns-fit ps _ c.well_formed.1.1.1.0).size) in
-      let small = c.well_formed.0.0 in
-      (h, l.invariant.1, l.invariant.2, omega (arith, few, l.invariant.2), there, omega (arith, l.invariant.3, bodies-size ps n l.p h there), omega (arith, small, l.invariant.4)) in room),
-)
-
-pub overflow_cast-at : goal.overflow_cast-at
-overflow_cast-at c = omega (
-  arith,
-  (let room : let ps = c.args.ps in
-      let n = c.args.settings.patterns in
-      let l = c.loop-p in
-      let count = count_at ps l.p in
-      (l.p < n) × (n ≤ 15) × (l.base ≡ sum_to ps.counts l.p) × (l.base + count ≤ 99) × (sum_to ps.counts l.p + count ≤ length ps.steps)
-      × (l.at + (2 + 9 * count) + length (bodies_bytes (rest (pattern_in ps) n (l.p + 1))) ≤ length l.out) × (length l.out < 2 ^ 64) = let ps = c.args.ps in
-      let l = c.loop-p in
-      let n = c.args.settings.patterns in
-      let h = c.loop-p-test.true in
-      let few = next-in n ps ((let fit : Fit c.args.settings.patterns c.args.ps = fit_of c.args.settings c.args.ps c.requires.right in fit)) l.p h in
-      let there : sum_to ps.counts l.p + count_at ps l.p ≤ length ps.steps = omega (arith, few, (patterns-fit ps _ c.well_formed.1.1.1.0).size) in
-      let small = c.well_formed.0.0 in
-      (h, l.invariant.1, l.invariant.2, omega (arith, few, l.invariant.2), there, omega (arith, l.invariant.3, bodies-size ps n l.p h there), omega (arith, small, l.invariant.4)) in room),
-)
-
-pub overflow_mul-at : goal.overflow_mul-at
-overflow_mul-at c = omega (
-  arith,
-  (let room : let ps = c.args.ps in
-      let n = c.args.settings.patterns in
-      let l = c.loop-p in
-      let count = count_at ps l.p in
-      (l.p < n) × (n ≤ 15) × (l.base ≡ sum_to ps.counts l.p) × (l.base + count ≤ 99) × (sum_to ps.counts l.p + count ≤ length ps.steps)
-      × (l.at + (2 + 9 * count) + length (bodies_bytes (rest (pattern_in ps) n (l.p + 1))) ≤ length l.out) × (length l.out < 2 ^ 64) = let ps = c.args.ps in
-      let l = c.loop-p in
-      let n = c.args.settings.patterns in
-      let h = c.loop-p-test.true in
-      let few = next-in n ps ((let fit : Fit c.args.settings.patterns c.args.ps = fit_of c.args.settings c.args.ps c.requires.right in fit)) l.p h in
-      let there : sum_to ps.counts l.p + count_at ps l.p ≤ length ps.steps = omega (arith, few, (patterns-fit ps _ c.well_formed.1.1.1.0).size) in
-      let small = c.well_formed.0.0 in
-      (h, l.invariant.1, l.invariant.2, omega (arith, few, l.invariant.2), there, omega (arith, l.invariant.3, bodies-size ps n l.p h there), omega (arith, small, l.invariant.4)) in room),
-)
-
-pub overflow_add-at : goal.overflow_add-at
-overflow_add-at c = omega (
-  arith,
-  (let room : let ps = c.args.ps in
-      let n = c.args.settings.patterns in
-      let l = c.loop-p in
-      let count = count_at ps l.p in
-      (l.p < n) × (n ≤ 15) × (l.base ≡ sum_to ps.counts l.p) × (l.base + count ≤ 99) × (sum_to ps.counts l.p + count ≤ length ps.steps)
-      × (l.at + (2 + 9 * count) + length (bodies_bytes (rest (pattern_in ps) n (l.p + 1))) ≤ length l.out) × (length l.out < 2 ^ 64) = let ps = c.args.ps in
-      let l = c.loop-p in
-      let n = c.args.settings.patterns in
-      let h = c.loop-p-test.true in
-      let few = next-in n ps ((let fit : Fit c.args.settings.patterns c.args.ps = fit_of c.args.settings c.args.ps c.requires.right in fit)) l.p h in
-      let there : sum_to ps.counts l.p + count_at ps l.p ≤ length ps.steps = omega (arith, few, (patterns-fit ps _ c.well_formed.1.1.1.0).size) in
-      let small = c.well_formed.0.0 in
-      (h, l.invariant.1, l.invariant.2, omega (arith, few, l.invariant.2), there, omega (arith, l.invariant.3, bodies-size ps n l.p h there), omega (arith, small, l.invariant.4)) in room),
-)
-
-pub overflow_add-at-in-loop-p : goal.overflow_add-at-in-loop-p
-overflow_add-at-in-loop-p c = omega (
-  arith,
-  (let room : let ps = c.args.ps in
-      let n = c.args.settings.patterns in
-      let l = c.loop-p in
-      let count = count_at ps l.p in
-      (l.p < n) × (n ≤ 15) × (l.base ≡ sum_to ps.counts l.p) × (l.base + count ≤ 99) × (sum_to ps.counts l.p + count ≤ length ps.steps)
-      × (l.at + (2 + 9 * count) + length (bodies_bytes (rest (pattern_in ps) n (l.p + 1))) ≤ length l.out) × (length l.out < 2 ^ 64) = let ps = c.args.ps in
-      let l = c.loop-p in
-      let n = c.args.settings.patterns in
-      let h = c.loop-p-test.true in
-      let few = next-in n ps ((let fit : Fit c.args.settings.patterns c.args.ps = fit_of c.args.settings c.args.ps c.requires.right in fit)) l.p h in
-      let there : sum_to ps.counts l.p + count_at ps l.p ≤ length ps.steps = omega (arith, few, (patterns-fit ps _ c.well_formed.1.1.1.0).size) in
-      let small = c.well_formed.0.0 in
-      (h, l.invariant.1, l.invariant.2, omega (arith, few, l.invariant.2), there, omega (arith, l.invariant.3, bodies-size ps n l.p h there), omega (arith, small, l.invariant.4)) in room),
-)
-
-pub overflow_cast-base : goal.overflow_cast-base
-overflow_cast-base c = omega (
-  arith,
-  (let room : let ps = c.args.ps in
-      let n = c.args.settings.patterns in
-      let l = c.loop-p in
-      let count = count_at ps l.p in
-      (l.p < n) × (n ≤ 15) × (l.base ≡ sum_to ps.counts l.p) × (l.base + count ≤ 99) × (sum_to ps.counts l.p + count ≤ length ps.steps)
-      × (l.at + (2 + 9 * count) + length (bodies_bytes (rest (pattern_in ps) n (l.p + 1))) ≤ length l.out) × (length l.out < 2 ^ 64) = let ps = c.args.ps in
-      let l = c.loop-p in
-      let n = c.args.settings.patterns in
-      let h = c.loop-p-test.true in
-      let few = next-in n ps ((let fit : Fit c.args.settings.patterns c.args.ps = fit_of c.args.settings c.args.ps c.requires.right in fit)) l.p h in
-      let there : sum_to ps.counts l.p + count_at ps l.p ≤ length ps.steps = omega (arith, few, (patterns-fit ps _ c.well_formed.1.1.1.0).size) in
-      let small = c.well_formed.0.0 in
-      (h, l.invariant.1, l.invariant.2, omega (arith, few, l.invariant.2), there, omega (arith, l.invariant.3, bodies-size ps n l.p h there), omega (arith, small, l.invariant.4)) in room),
-)
-
-pub overflow_add-base : goal.overflow_add-base
-overflow_add-base c = omega (
-  arith,
-  (let room : let ps = c.args.ps in
-      let n = c.args.settings.patterns in
-      let l = c.loop-p in
-      let count = count_at ps l.p in
-      (l.p < n) × (n ≤ 15) × (l.base ≡ sum_to ps.counts l.p) × (l.base + count ≤ 99) × (sum_to ps.counts l.p + count ≤ length ps.steps)
-      × (l.at + (2 + 9 * count) + length (bodies_bytes (rest (pattern_in ps) n (l.p + 1))) ≤ length l.out) × (length l.out < 2 ^ 64) = let ps = c.args.ps in
-      let l = c.loop-p in
-      let n = c.args.settings.patterns in
-      let h = c.loop-p-test.true in
-      let few = next-in n ps ((let fit : Fit c.args.settings.patterns c.args.ps = fit_of c.args.settings c.args.ps c.requires.right in fit)) l.p h in
-      let there : sum_to ps.counts l.p + count_at ps l.p ≤ length ps.steps = omega (arith, few, (patterns-fit ps _ c.well_formed.1.1.1.0).size) in
-      let small = c.well_formed.0.0 in
-      (h, l.invariant.1, l.invariant.2, omega (arith, few, l.invariant.2), there, omega (arith, l.invariant.3, bodies-size ps n l.p h there), omega (arith, small, l.invariant.4)) in room),
-)
-
-pub overflow_add-p : goal.overflow_add-p
-overflow_add-p c = omega (
-  arith,
-  (let room : let ps = c.args.ps in
-      let n = c.args.settings.patterns in
-      let l = c.loop-p in
-      let count = count_at ps l.p in
-      (l.p < n) × (n ≤ 15) × (l.base ≡ sum_to ps.counts l.p) × (l.base + count ≤ 99) × (sum_to ps.counts l.p + count ≤ length ps.steps)
-      × (l.at + (2 + 9 * count) + length (bodies_bytes (rest (pattern_in ps) n (l.p + 1))) ≤ length l.out) × (length l.out < 2 ^ 64) = let ps = c.args.ps in
-      let l = c.loop-p in
-      let n = c.args.settings.patterns in
-      let h = c.loop-p-test.true in
-      let few = next-in n ps ((let fit : Fit c.args.settings.patterns c.args.ps = fit_of c.args.settings c.args.ps c.requires.right in fit)) l.p h in
-      let there : sum_to ps.counts l.p + count_at ps l.p ≤ length ps.steps = omega (arith, few, (patterns-fit ps _ c.well_formed.1.1.1.0).size) in
-      let small = c.well_formed.0.0 in
-      (h, l.invariant.1, l.invariant.2, omega (arith, few, l.invariant.2), there, omega (arith, l.invariant.3, bodies-size ps n l.p h there), omega (arith, small, l.invariant.4)) in room),
-)
-
-pub loop-p-smaller : goal.loop-p-smaller
-loop-p-smaller c = omega (
-  arith,
-  (let room : let ps = c.args.ps in
-      let n = c.args.settings.patterns in
-      let l = c.loop-p in
-      let count = count_at ps l.p in
-      (l.p < n) × (n ≤ 15) × (l.base ≡ sum_to ps.counts l.p) × (l.base + count ≤ 99) × (sum_to ps.counts l.p + count ≤ length ps.steps)
-      × (l.at + (2 + 9 * count) + length (bodies_bytes (rest (pattern_in ps) n (l.p + 1))) ≤ length l.out) × (length l.out < 2 ^ 64) = let ps = c.args.ps in
-      let l = c.loop-p in
-      let n = c.args.settings.patterns in
-      let h = c.loop-p-test.true in
-      let few = next-in n ps ((let fit : Fit c.args.settings.patterns c.args.ps = fit_of c.args.settings c.args.ps c.requires.right in fit)) l.p h in
-      let there : sum_to ps.counts l.p + count_at ps l.p ≤ length ps.steps = omega (arith, few, (patterns-fit ps _ c.well_formed.1.1.1.0).size) in
-      let small = c.well_formed.0.0 in
-      (h, l.invariant.1, l.invariant.2, omega (arith, few, l.invariant.2), there, omega (arith, l.invariant.3, bodies-size ps n l.p h there), omega (arith, small, l.invariant.4)) in room),
-)
-
-pub shape_of-out : goal.shape_of-out
-shape_of-out c = c.loop-p.invariant.4
+    ∙ l.invariant.left ∙ ap (λ (xs : List Pattern). sets l.out l.at (bodies_bytes xs)) (rest_end (pattern_in ps) settings.patterns l.p c.loop-p-test.false))

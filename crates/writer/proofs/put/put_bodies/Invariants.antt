@@ -2,7 +2,7 @@
 -- into the buffer as it is.
 -- Assumes nothing.
 use mathlib.Core.Path.{◌≡◌}
-use Prim.Native.Nat.{◌+◌, ◌-◌, ◌≤◌}
+use Prim.Native.Nat.{◌+◌, ◌≤◌}
 use lib.ListN.{length}
 use lib.Seq.{sets}
 use Rattle.arrays.specs.Encode.{bodies_bytes}
@@ -12,8 +12,12 @@ use Rattle.writer.proofs.put.put_bodies.Given as goal
 
 abbrev pub invariant-loop-p : goal.invariant-loop-p
 invariant-loop-p l =
-    (l.p ≤ l.n) × (l.n ≤ 15) × (l.base ≡ sum_to l.ps.counts l.p) × (l.at + length (bodies_bytes (rest (pattern_in l.ps) l.n l.p)) ≤ length l.out) × (length l.out ≡ length l.initial.out)
-    × (sets l.initial.out l.from (bodies_bytes (rest (pattern_in l.ps) l.n 0)) ≡ sets l.out l.at (bodies_bytes (rest (pattern_in l.ps) l.n l.p)))
-
-abbrev pub decreases-loop-p : goal.decreases-loop-p
-decreases-loop-p l = l.n - l.p
+    let n = l.fn.settings.patterns in
+    let f = pattern_in l.ps in
+    record {
+      few : n ≤ 15;
+      inside : l.base ≤ 99;
+      begins : l.base ≡ sum_to l.ps.counts l.p;
+      room : l.at + length (bodies_bytes (rest f n l.p)) ≤ length l.out;
+      left : sets l.initial.out l.fn.from (bodies_bytes (rest f n 0)) ≡ sets l.out l.at (bodies_bytes (rest f n l.p));
+    }

@@ -2,8 +2,7 @@
 -- into the buffer as it is.
 -- Assumes nothing.
 use mathlib.Core.Path.{◌≡◌}
-use Prim.Native.Nat.{◌+◌, ◌*◌, ◌-◌, ◌≤◌}
-use lib.ListN.{length}
+use Prim.Native.Nat.{◌+◌, ◌*◌, ◌≤◌}
 use lib.Seq.{sets}
 use Rattle.arrays.specs.Encode.{pairs_bytes}
 use Rattle.arrays.proofs.Views.{rest}
@@ -12,8 +11,10 @@ use Rattle.writer.proofs.put.put_pairs.Given as goal
 
 abbrev pub invariant-loop-p : goal.invariant-loop-p
 invariant-loop-p l =
-    (l.p ≤ l.n) × (l.n ≤ 15) × (l.due ≤ 105 + 3000 * l.p) × (length l.out ≡ length l.initial.out)
-    × (sets l.initial.out 45 (pairs_bytes (45 + 4 * l.n) (rest (pattern_in l.ps) l.n 0)) ≡ sets l.out (45 + 4 * l.p) (pairs_bytes l.due (rest (pattern_in l.ps) l.n l.p)))
-
-abbrev pub decreases-loop-p : goal.decreases-loop-p
-decreases-loop-p l = l.n - l.p
+    let n = l.fn.settings.patterns in
+    let f = pattern_in l.fn.ps in
+    record {
+      few : n ≤ 15;
+      near : l.due ≤ 105 + 3000 * l.p;
+      left : sets l.initial.out 45 (pairs_bytes (45 + 4 * n) (rest f n 0)) ≡ sets l.out (45 + 4 * l.p) (pairs_bytes l.due (rest f n l.p));
+    }

@@ -1,6 +1,6 @@
 -- `writer::put::put_settings` meets its contract: three rows, one behind the other.
 -- Assumes nothing.
-use mathlib.Core.Path.{◌≡◌, refl, ◌∙◌}
+use mathlib.Core.Path.{◌≡◌, refl}
 use mathlib.Core.List.{List, ◌++◌}
 use Prim.Native.Nat.{ℕ}
 use native.Mathlib.Omega.{arith}
@@ -11,20 +11,6 @@ use Rattle.writer.proofs.Rows.{rows-put}
 use Rattle.arrays.proofs.Sizes.{length-paired}
 use Rattle.arrays.proofs.Values.{fours}
 use Rattle.writer.proofs.put.put_settings.Goals as goal
-
-pub put_halves-requires : goal.put_halves-requires
-put_halves-requires c = omega (arith, c.requires, c.put_head.auto.out)
-
-pub put_halves-requires-2 : goal.put_halves-requires-2
-put_halves-requires-2 c =
-    let head = c.put_head in
-    omega (arith, c.requires, head.auto.out, c.put_halves.auto.out)
-
-pub shape_of-out : goal.shape_of-out
-shape_of-out c =
-    let head = c.put_head in
-    let waiting = c.put_halves in
-    c.put_halves-2.auto.out ∙ waiting.auto.out ∙ head.auto.out
 
 pub returns : goal.returns
 unfolding total
@@ -41,6 +27,3 @@ returns c =
     let other = c.put_halves.ensures in
     let first = rows-put (take 8 setting_widths) head two waiting out 0 refl one other in
     rows-put (take 16 setting_widths) (head ++ waiting) two signals out 0 size first c.put_halves-2.ensures
-
-pub put_head-requires : goal.put_head-requires
-put_head-requires c = c.requires

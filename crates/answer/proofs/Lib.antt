@@ -1,0 +1,2 @@
+-- The laws that the proofs of `answer` cite.
+pub mod Laws

@@ -1,5 +1,0 @@
--- The measure is the most digits.
-use Rattle.decimal.proofs.+put_digits.Given as goal
-
-abbrev pub decreases-put_digits : goal.decreases-put_digits
-decreases-put_digits l = l.most

@@ -1,2 +1,0 @@
--- What the functions of `ramp` ask.
-pub mod Asks

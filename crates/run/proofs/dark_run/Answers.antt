@@ -1,8 +1,0 @@
--- `run::dark_run` meets its contract. Assumes nothing.
-use mathlib.Core.Path.{refl}
-use Rattle.plain.specs.Event.{dark_run}
-use Rattle.run.proofs.dark_run.Goals as goal
-
-pub returns : goal.returns
-unfolding dark_run
-returns c = refl
