@@ -112,12 +112,15 @@ module _ (settings : Settings) (ps : Patterns) (f : SettingsFit settings) (g : P
   size : length (encode settings (taken_of settings ps)) ≡ 45 + 6 * settings.patterns + 9 * length (all_steps (taken_of settings ps))
   size = length-written settings ps (fours-of settings f)
 
-  -- by the sum of the counts
-  pub size-by : {steps : ℕ} → steps ≡ sum (take settings.patterns ps.counts)
+  -- by a number of steps that is theirs
+  pub size-by : {steps : ℕ} → steps ≡ length (all_steps (taken_of settings ps))
       → (45 + 6 * settings.patterns + 9 * steps ≡ length (encode settings (taken_of settings ps))) × (steps ≤ 99)
-  size-by same =
-      let counted = same ∙ sum-taken ps.counts settings.patterns (omega (arith, fit.few, g.counts)) ∙ sym steps_of in
-      (omega (arith, size, counted), omega (arith, steps-in, counted))
+  size-by same = (omega (arith, size), omega (arith, steps-in))
+
+  -- and by the sum of the counts
+  pub size-counted : {steps : ℕ} → length ps.counts ≡ 15 → steps ≡ sum (take settings.patterns ps.counts)
+      → (45 + 6 * settings.patterns + 9 * steps ≡ length (encode settings (taken_of settings ps))) × (steps ≤ 99)
+  size-counted long same = size-by (same ∙ sum-taken ps.counts settings.patterns (omega (arith, fit.few, long)) ∙ sym steps_of)
 
   short : length bank < 65536
   short = omega (arith, size, fit.few, steps-in)

@@ -51,9 +51,8 @@ pub record StepFits (step : Step) : Type 0 where
   pub wait : step.wait < 256
   pub signals : Four 256 step.signals
 
--- the patterns: 15 counts, 99 steps
+-- the patterns: 99 steps
 pub record PatternsFit (ps : Patterns) : Type 0 where
-  pub counts : length ps.counts ≡ 15
   pub size : length ps.steps ≡ 99
   pub steps : All StepFits ps.steps
 
@@ -109,4 +108,8 @@ steps-fit (one ∷ ss) (value ∷ us) h = (step_fits one (value ∷ []) h.0, ste
 pub patterns-fit : (ps : Patterns) (vs : List Val) → Is (row patterns.the_type) ps vs → PatternsFit ps
 patterns-fit ps vs h =
     let a = h.1.1.1.1.0 in
-    record { counts = h.1.1.1.0.1.0.1; size = a.1.0.1; steps = steps-fit ps.steps a.0 a.1.1 }
+    record { size = a.1.0.1; steps = steps-fit ps.steps a.0 a.1.1 }
+
+-- and 15 counts
+pub counts-fit : (ps : Patterns) (vs : List Val) → Is (row patterns.the_type) ps vs → length ps.counts ≡ 15
+counts-fit ps vs h = h.1.1.1.0.1.0.1

@@ -11,7 +11,7 @@ use Rattle.bank.specs.View.{Pattern}
 use Rattle.arrays.specs.Encode.{pairs_bytes}
 use Rattle.arrays.proofs.Views.{rest, rest_end, next_place}
 use Rattle.arrays.proofs.Taken.{count_at, pattern_in, taken-rest, fit_of, sum_to, next-in}
-use Rattle.arrays.proofs.Values.{patterns-fit}
+use Rattle.arrays.proofs.Values.{patterns-fit, counts-fit}
 use Rattle.arrays.proofs.Sizes.{pairs-turn}
 use Rattle.writer.proofs.Rows.{row_put}
 use Rattle.writer.proofs.put.put_pairs.Goals as goal
@@ -44,7 +44,6 @@ returns c =
     let settings = c.args.settings in
     let ps = c.args.ps in
     let n = settings.patterns in
-    let fit = patterns-fit ps _ c.well_formed.1.1.0 in
-    let none : n ≤ l.p = omega (arith, length-take n ps.counts, fit.counts, l.invariant.few, c.loop-p-test.false) in
+    let none : n ≤ l.p = omega (arith, length-take n ps.counts, counts-fit ps _ c.well_formed.1.1.0, l.invariant.few, c.loop-p-test.false) in
     sym (ap (λ (xs : List Pattern). sets c.args.out.now 45 (pairs_bytes (45 + 4 * n) xs)) (taken-rest settings ps)
     ∙ l.invariant.left ∙ ap (λ (xs : List Pattern). sets l.out (45 + 4 * l.p) (pairs_bytes l.due xs)) (rest_end (pattern_in ps) n l.p none))
