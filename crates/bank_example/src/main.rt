@@ -52,13 +52,23 @@ fn example_patterns() -> Patterns {
     }
 }
 
-// The numbers of a refusal, one to a line.
+// The numbers of a refusal, one to a line, each written by itself: where a write fails, those before it were written.
 fn show_refusal<R: Print>(rt: &R, refusal: BankRefusal) -> io::Result<()> {
     match refusal {
         BankRefusal::Short => println!(rt; "11"),
-        BankRefusal::Setting(offset) => println!(rt; "12\n{offset}"),
-        BankRefusal::Pair(pair) => println!(rt; "13\n{pair}"),
-        BankRefusal::Body(pattern, step) => println!(rt; "14\n{pattern}\n{step}"),
+        BankRefusal::Setting(offset) => {
+            println!(rt; "12")?;
+            println!(rt; "{offset}")
+        }
+        BankRefusal::Pair(pair) => {
+            println!(rt; "13")?;
+            println!(rt; "{pair}")
+        }
+        BankRefusal::Body(pattern, step) => {
+            println!(rt; "14")?;
+            println!(rt; "{pattern}")?;
+            println!(rt; "{step}")
+        }
     }
 }
 
@@ -74,7 +84,8 @@ fn show_checked<R: Print>(rt: &R, found: Result<(), BankRefusal>) -> io::Result<
 fn show_written<R: Print>(rt: &R, written: Result<u16, WriteRefusal>) -> io::Result<usize> {
     match written {
         Ok(size) => {
-            println!(rt; "0\n{size}")?;
+            println!(rt; "0")?;
+            println!(rt; "{size}")?;
             return Ok(size as usize);
         }
         Err(WriteRefusal::Bank(refusal)) => show_refusal(rt, refusal)?,
