@@ -17,6 +17,7 @@ use lib.Seq.{sets, length-sets, take-suc-set, append_snoc, drop-cons, drop-nil, 
 use mir.Syntax.{Width, w8, w16, w32, w64, w128}
 use mir.Val.{bits, hbits, Fits, SFits, to_z, of_z}
 use mir.Facts.{to_z-of_z, of_z-to_z, Fits-of_z}
+use Rattle.std.proofs.lemmas.Grind.{common_steps}
 use Rattle.std.specs.Int.{byte_worth, sum_through, from_le_bytes}
 use Rattle.field.specs.Field.{num, field, digits, stored, bytes, signed_field}
 
@@ -74,6 +75,13 @@ field-four buffer i =
     let same : i + 2 + 1 ≡ i + 3 = omega arith in
     let high : field 2 buffer (i + 2) ≡ get_or buffer (i + 2) 0 + 256 * get_or buffer (i + 3) 0 = field-two buffer (i + 2) ∙ rw same in
     omega (arith, field-split 2 2 buffer i, field-two buffer i)
+
+-- eight bytes are four, and four more
+pub field-eight : (buffer : List ℕ) (i : ℕ) → field 8 buffer i ≡ field 4 buffer i + 4294967296 * field 4 buffer (i + 4)
+field-eight buffer i = field-split 4 4 buffer i
+
+-- a field by its bytes and by its halves, for the search
+pub ruleset reads = (field-one, field-two, field-four, field-eight, common_steps)
 
 -- a field is what its bytes are
 pub field-same : (width : ℕ) (a buffer : List ℕ) (i j : ℕ) → ((index : ℕ) → index < width → get_or a (i + index) 0 ≡ get_or buffer (j + index) 0) → field width a i ≡ field width buffer j

@@ -6,7 +6,7 @@ ghost use Rattle.std.specs.Int.{w16};
 ghost use Rattle.std.proofs.Common.{to_z};
 ghost use Rattle.field.specs.Field.{field};
 
-// The numbers whose bytes these are: one call each, with a contract by arithmetic, which the readers of a bank need.
+// The numbers whose bytes these are: one call each, with a contract by arithmetic. The readers of a bank need the first, `long` the second.
 pub fn join2(low: u8, high: u8) -> u16
     ensures { result ≡ low + 256 * high }
 {
@@ -37,24 +37,32 @@ fn bytes<const N: usize>(buffer: &[u8], at: usize) -> [u8; N]
 }
 
 // The number of one byte at an offset, of two, of four and of eight.
+#[tactic(auto, using(crate::proofs::Laws::reads))]
 pub fn byte(buffer: &[u8], at: usize) -> u8
     ensures { result ≡ field 1 buffer.now at }
 {
     buffer.get(at).copied().unwrap_or(0)
 }
 
+#[tactic(auto, using(crate::proofs::Laws::reads))]
 pub fn word(buffer: &[u8], at: usize) -> u16
     ensures { result ≡ field 2 buffer.now at }
 {
     u16::from_le_bytes(bytes(buffer, at))
 }
 
+#[tactic(auto, using(crate::proofs::Laws::reads))]
 pub fn long(buffer: &[u8], at: usize) -> u32
     ensures { result ≡ field 4 buffer.now at }
 {
+    // Four bytes that are there are joined from where they stand: out of what `bytes` gives, they took twice the time.
+    if let Some([first, second, third, fourth, ..]) = buffer.get(at..) {
+        return join4(*first, *second, *third, *fourth);
+    }
     u32::from_le_bytes(bytes(buffer, at))
 }
 
+#[tactic(auto, using(crate::proofs::Laws::reads))]
 pub fn quad(buffer: &[u8], at: usize) -> u64
     ensures { result ≡ field 8 buffer.now at }
 {
