@@ -30,7 +30,7 @@ fn cook(bytes: &mut [u8; SIZE], k: u8)
     if place < 99 {
         let at = CREDITS + 4 * place;
         let credit = one_more(long(bytes, at));
-        bytes[at..at + 4].copy_from_slice(&credit.to_le_bytes());
+        stored::put(bytes, at, 4, u64::from(credit));
     }
 }
 
@@ -66,5 +66,5 @@ pub fn put_rest(bytes: &mut [u8; SIZE], run: Run)
     let (kind, bits) = kind_and_bits(run.measured);
     bytes[REST] = run.unsaved;
     bytes[REST + 1] = kind;
-    bytes[REST + 2..].copy_from_slice(&bits.to_le_bytes());
+    stored::put(bytes, REST + 2, 8, bits);
 }

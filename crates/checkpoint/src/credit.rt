@@ -21,7 +21,6 @@ pub fn put_credits(store: &mut [u8], credits: [u32; 99])
     ensures { store.new ≡ sets store.old 15 (row credit_widths credits) }
 {
     for (i, credit) in credits.iter().enumerate() {
-        let at = CREDITS + 4 * i;
-        store[at..at + 4].copy_from_slice(&credit.to_le_bytes());
+        stored::put(store, CREDITS + 4 * i, 4, u64::from(*credit));
     }
 }
