@@ -1,15 +1,16 @@
 -- Numbers made as bytes in their part of a buffer, or copied into it.
 -- Assumes nothing.
-use Prim.Native.Nat.{ℕ, ◌+◌, ◌-◌, ◌%◌, ◌≤◌, ◌<◌}
+use Prim.Native.Nat.{ℕ, suc, ◌+◌, ◌-◌, ◌%◌, ◌≤◌, ◌<◌}
 use mathlib.Core.Path.{◌≡◌, sym, ap, ◌∙◌}
 use mathlib.Core.Bool.{cond}
 use mathlib.Core.List.{List, ◌++◌, append_assoc}
+use native.Mathlib.Numerals.{add-one}
 use native.Mathlib.Omega.{arith}
 use borrow.Author.Tests.{eq-eqb}
 use borrow.Rule.Slice.PartMut.{mid_of, put_mid}
 use lib.Dec.{eqb}
-use lib.ListN.{length, take, drop, length-take, length-drop}
-use lib.Seq.{sets, sets-eq, drop-drop}
+use lib.ListN.{length, take, drop, get_or, set, length-take, length-drop}
+use lib.Seq.{sets, sets-eq, drop-drop, length-take-le, drop-cons, set_at, take-suc, append_snoc}
 use Rattle.field.specs.Field.{digits}
 use Rattle.field.specs.Row.{row, total, stored_row}
 use Rattle.field.proofs.Laws.{length_digits}
@@ -51,3 +52,12 @@ copied-row widths numbers bytes made left at paired inside room same copied =
     (part-sets bytes made at (at + total widths) (omega arith) (omega arith)
     ∙ ap (sets bytes at) same
     ∙ sym (stored_row_lem widths bytes at numbers (omega arith) (omega arith)))
+
+-- a turn of a loop that copies
+pub copy-turn : (store part : List ℕ) (i : ℕ) → i < length store → i < length part
+    → set (take i part ++ drop i store) i (get_or part i 0) ≡ take (i + 1) part ++ drop (i + 1) store
+copy-turn store part i h l =
+    let front : length (take i part) ≡ i = length-take-le i part (omega arith) in
+    rw (drop-cons store i 0 h, add-one)
+    (set_at (take i part) (get_or store i 0) (drop (suc i) store) (get_or part i 0) i front
+    ∙ sym (ap (λ (x : List ℕ). x ++ drop (suc i) store) (take-suc part i 0 l) ∙ append_snoc (take i part) (get_or part i 0) (drop (suc i) store)))

@@ -87,6 +87,9 @@ pub fn copy(buffer: &mut [u8], source: &[u8])
     ensures { buffer.new ≡ cond (eqb (length buffer.old) (length source.now)) source.now buffer.old }
 {
     if buffer.len() == source.len() {
-        buffer.copy_from_slice(source);
+        // One by one: `copy_from_slice` makes the static library ask its host for `memmove`.
+        for i in 0..source.len() {
+            buffer[i] = source[i];
+        }
     }
 }
