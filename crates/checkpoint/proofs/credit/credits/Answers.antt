@@ -4,19 +4,18 @@ use Prim.Native.Nat.{ℕ, zero, suc, ◌+◌, ◌*◌, ◌≤◌, ◌<◌}
 use mathlib.Core.Path.{◌≡◌, sym, ap, ◌∙◌, subst}
 use mathlib.Core.List.{List}
 use mathlib.Core.Logic.{◌⊎◌, inl, inr}
-use native.Mathlib.Nat.{mul-add, mul-one}
-use native.Mathlib.Numerals.{add-one}
 use native.Mathlib.Omega.{arith}
 use borrow.Author.Rules.{rules}
 use denote.Param.Members.{Mut, Called}
-use lib.ListN.{length, get_or, replicate, length-replicate}
+use lib.ListN.{length, get_or, length-replicate}
 use lib.Seq.{ext_get_or}
 use Rattle.std.specs.Array.{IsFromFnResultFrom}
 use Rattle.std.proofs.lemmas.Bool.{cases_lt}
 use Rattle.field.specs.Field.{field}
-use Rattle.field.specs.Row.{row_at, total}
+use Rattle.field.specs.Row.{total}
 use Rattle.field.proofs.Rows.{length-row_at}
 use Rattle.plain.specs.Record.{widths_of, credit_widths, credits_from, credits_in}
+use Rattle.checkpoint.proofs.Laws.{number-at}
 use Rattle.checkpoint.proofs.credit.credits.Goals as goal
 
 -- where each call gives the number of its place and changes nothing, each element is the number of its place
@@ -33,15 +32,6 @@ module _ {F : Type 0} (g : Mut F (ℕ × Unit {0}) ℕ) (f : F) (number : ℕ �
       go (inr l) later =
           let here : j ≡ i = omega arith in
           ap (λ (k : ℕ). get_or ys k 0) here ∙ h.2.1 0 ∙ s.0 ∙ ap number (sym here)
-
--- a number of a row of one width
-number-at : (width count : ℕ) (bytes : List ℕ) (at i : ℕ) → i < count → get_or (row_at (replicate count width) bytes at) i 0 ≡ field width bytes (at + width * i)
-unfolding row_at
-number-at width zero bytes at i h = absurd (omega arith)
-number-at width (suc count) bytes at zero h = ap (field width bytes) (omega arith)
-number-at width (suc count) bytes at (suc i) h =
-    let next : at + width + width * i ≡ at + width * suc i = rw (← add-one, mul-add, mul-one) (omega arith) in
-    number-at width count bytes (at + width) i (omega arith) ∙ ap (field width bytes) next
 
 pub returns : goal.returns
 unfolding credits_in credit_widths widths_of total
