@@ -7,7 +7,7 @@ use mathlib.Core.List.{List}
 use lib.Dec.{eqb}
 use lib.ListN.{drop}
 use Rattle.std.specs.Prelude.{Result, Ok, Err, MatchResult, IsErrAnd}
-use Rattle.std.specs.Result.{is_ok}
+use Rattle.std.specs.Result.{is_ok, result_and}
 use Rattle.std.proofs.lemmas.Result.{err_from_is_err_and}
 use Rattle.field.specs.Field.{field}
 use Rattle.setting.specs.Found.{Checked, numbers_of}
@@ -53,6 +53,14 @@ module _ (bank : List ℕ) (found : Checked) (mapped : Result (Unit {0}) AnyRefu
       go : (x : Checked) → MatchResult x (λ y. mapped ≡ Ok y) (λ e. IsErrAnd mapped (λ y. y ≡ AnyRefusal.Bank e)) → rest ≡ or_else x rest
       go (Ok done) e = refl
       go (Err denied) e = let p = err_from_is_err_and mapped e in cc
+
+  -- and an answer behind the check of the bank
+  pub bank-behind : {answer : Answer} → answer ≡ result_and mapped rest → answer ≡ or_else (found_in bank) rest
+  bank-behind h = h ∙ go found cases ∙ ap (λ (x : Checked). or_else x rest) is
+    where
+      go : (x : Checked) → MatchResult x (λ y. mapped ≡ Ok y) (λ e. IsErrAnd mapped (λ y. y ≡ AnyRefusal.Bank e)) → result_and mapped rest ≡ or_else x rest
+      go (Ok done) e = rw e
+      go (Err denied) e = let p = err_from_is_err_and mapped e in rw (p.1, p.2)
 
 module _ (setup : Setup) (store bytes : List ℕ) where
   abbrev none : Answer
