@@ -72,7 +72,7 @@ fn run_lines<R: Input + Print + Eprint>(
             ControlFlow::Break(last) => return Some(last),
         }
     }
-    None
+    None // the turns ran out
 }
 
 // A controller is made over the bank, and the lines are run by it: the state after the last line, where all lines were read, run and shown. A refused
