@@ -40,6 +40,7 @@ pub fn write(settings: Settings, ps: Patterns, out: &mut [u8]) -> Result<u16, Wr
 }
 
 // A bank is read, and written again at the front of a buffer: an accepted one has the same bytes there, any other gives its refusal.
+#[tactic(auto, unfolding(arrays::specs::Write::rewrite_of, arrays::specs::Write::write_as, arrays::specs::Write::written_numbers, arrays::specs::Read::read_of, arrays::specs::Read::read_as))]
 pub fn rewrite(bank: &[u8], out: &mut [u8]) -> Result<u16, WriteRefusal>
     ensures { after result out.new ≡ rewrite_of bank.now out.old }
 {
