@@ -19,7 +19,7 @@ use borrow.Author.Tests.{leb-true, leb-false, eqb-true, le-leb}
 use mir.Syntax.{w16}
 use mir.Val.{to_z}
 use Rattle.field.specs.Field.{field, signed_field}
-use Rattle.field.proofs.Laws.{field_past, field-same}
+use Rattle.field.proofs.Laws.{field_past, field-one, field-same}
 use Rattle.limits.specs.Range.{between}
 use Rattle.capacity.specs.Capacity.{capacity_of}
 use Rattle.bank.specs.View.{Pattern, offset_of, length_of, steps_in, pattern_at, patterns_of, pattern_of, step_of, step_at, numbered, no_step, no_pattern}
@@ -112,6 +112,15 @@ pub step-padded : (bank front : List ℕ) (at from n : ℕ) → front ≡ take (
     → step_at (front ++ drop n (replicate 9 0)) 0 ≡ step_at bank at
 step-padded bank front at from n same is =
     step-same _ bank 0 at (λ k h. let k-is : 0 + k ≡ k = omega arith in rw k-is (zeros-after front n 9 k ∙ ap (λ (xs : List ℕ). get_or xs k 0) same ∙ rest-read bank at from k is))
+
+-- a step with the fields of one that stands at the front of some bytes, its wait number maybe read from there, is that step
+pub step-fields : (made step : Step) (bytes : List ℕ) → step ≡ step_at bytes 0 → made.target ≡ step.target → made.minutes ≡ step.minutes
+    → (step.wait ≡ get_or bytes 4 0 → made.wait ≡ step.wait) → made.signals ≡ step.signals → made ≡ step_at bytes 0
+unfolding step_at
+step-fields made step bytes is target minutes wait signals =
+    let same : step.wait ≡ get_or bytes 4 0 = ap (λ (x : Step). x.wait) is ∙ field-one bytes 4 in
+    let whole : made ≡ step = λ i. record { target = target i; minutes = minutes i; wait = wait same i; signals = signals i } in
+    whole ∙ is
 
 -- a step whose fields are 0
 pub step-default : (step : Step) → (step.target ≡ pos 0) × ((step.minutes ≡ 0) × ((step.wait ≡ 0) × AllOfLen (λ (x : ℕ). x ≡ 0) step.signals 4)) → step ≡ no_step

@@ -1,6 +1,7 @@
 -- `stored::put_all` meets its contract.
 -- Assumes nothing.
 use Rattle.std.proofs.Common.{◌≡◌, ◌+◌, ◌-◌, ◌∙◌, [], ap, refl, length, rules, arith}
+use Rattle.std.proofs.lemmas.Grind.{common_steps}
 use Rattle.std.proofs.Math.Seq.{sets}
 use Rattle.std.proofs.Math.ListN.{drop_of_length-le}
 use borrow.Rule.Slice.PartMut.{put_mid}
@@ -27,7 +28,7 @@ loop-width-preserved c =
     let numbers = c.next.new.self.b.rest.now in
     let t : total l.width-iterator.a.rest.now ≡ width + total widths = ap total h.0 in
     let wrote : put_mid l.to (l.to + width - l.to) l.buffer c.put_digits.new.place ≡ sets l.buffer l.to (digits width v) =
-    part-digits l.buffer _ l.to (l.to + width) width v refl (omega arith) c.put_digits.ensures in
+    part-digits l.buffer c.put_digits.new.place l.to (l.to + width) width v refl (omega arith) (grind (arith, common_steps)) in
     record {
       can_next = search rules;
       is_finite = search rules;
